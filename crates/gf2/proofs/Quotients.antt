@@ -10,33 +10,33 @@ use lib.Bits.{bitXor, xor-shr, xor-assoc, xor-comm, xor-zero-r, xor-lt, xor-self
 use lib.Pow.{pow-pos, pow-mono, pow-lt}
 use Rattle.gf2.specs.Binary.{byBits, byBitsIn}
 use Rattle.gf2.specs.Poly.{times, Degree}
-use Rattle.gf2.specs.Division.{Divides, remainder, quotient, OnlyPair, Additive}
+use Rattle.gf2.specs.Division.{Divides, remainderOf, quotientOf, OnlyPair, Additive}
 use Rattle.gf2.specs.declared.generator.Generator.{Generator}
 use Rattle.gf2.proofs.Digits.{byBits-step, xor-swap, xor-shl, bit-cases, xor-zero, xor-cross}
 use Rattle.gf2.proofs.Products.{times-step, times-zero, times-sum, has-degree, degree-times, degree-ge, degree-lt, degree-by, below-of-shr}
 
 -- one more coefficient of p brought down to the remainder of the others
 abbrev brought : Generator → ℕ → ℕ
-brought g p = remainder g (p / 2) * 2 + p % 2
+brought g p = remainderOf g (p / 2) * 2 + p % 2
 
-remainder-zero : (g : Generator) → remainder g 0 ≡ 0
-unfolding remainder byBits byBitsIn
+pub remainder-zero : (g : Generator) → remainderOf g 0 ≡ 0
+unfolding remainderOf byBits byBitsIn
 remainder-zero g = refl
 
-quotient-zero : (g : Generator) → quotient g 0 ≡ 0
-unfolding quotient byBits byBitsIn
+pub quotient-zero : (g : Generator) → quotientOf g 0 ≡ 0
+unfolding quotientOf byBits byBitsIn
 quotient-zero g = refl
 
-pub remainder-step : (g : Generator) (p : ℕ) → remainder g p ≡ bitXor (brought g p) (brought g p / 2 ^ g .degree * g .poly)
-unfolding remainder
+pub remainder-step : (g : Generator) (p : ℕ) → remainderOf g p ≡ bitXor (brought g p) (brought g p / 2 ^ g .degree * g .poly)
+unfolding remainderOf
 remainder-step g p =
     byBits-step 0 (λ n rest. let x = rest * 2 + n % 2 in bitXor x (x / 2 ^ g .degree * g .poly))
       (ap (λ x. x * g .poly) (zero-div (2 ^ g .degree)) ∙ zero-mul (g .poly)) p
 
-pub quotient-step : (g : Generator) (p : ℕ) → quotient g p ≡ quotient g (p / 2) * 2 + brought g p / 2 ^ g .degree
-unfolding quotient
+pub quotient-step : (g : Generator) (p : ℕ) → quotientOf g p ≡ quotientOf g (p / 2) * 2 + brought g p / 2 ^ g .degree
+unfolding quotientOf
 quotient-step g p =
-    byBits-step 0 (λ n rest. rest * 2 + (remainder g (n / 2) * 2 + n % 2) / 2 ^ g .degree)
+    byBits-step 0 (λ n rest. rest * 2 + (remainderOf g (n / 2) * 2 + n % 2) / 2 ^ g .degree)
       (ap (λ x. 0 + (x * 2 + 0) / 2 ^ g .degree) (remainder-zero g) ∙ ap (λ x. 0 + x) (zero-div (2 ^ g .degree))) p
 
 times-digit : (q c g : ℕ) → c < 2 → times (q * 2 + c) g ≡ bitXor (c * g) (times q g * 2)
@@ -87,9 +87,9 @@ row g p q r h = record { identity = identity; bound = taken-lt (g .degree) (g .p
           ∙ ap (λ y. bitXor y (bitXor t x)) (xor-self (c * g .poly))
           ∙ whole)
 
-pub divides : (g : Generator) (p : ℕ) → Divides g p (quotient g p) (remainder g p)
-divides g = bin-ind (λ p. Divides g p (quotient g p) (remainder g p)) (rw (quotient-zero g, remainder-zero g) (record { identity = sym (ap (λ x. bitXor x 0) (times-zero (g .poly))); bound = pow-pos (g .degree) }))
-    (λ p ih. rw (quotient-step g p, remainder-step g p) (row g p (quotient g (p / 2)) (remainder g (p / 2)) ih))
+pub divides : (g : Generator) (p : ℕ) → Divides g p (quotientOf g p) (remainderOf g p)
+divides g = bin-ind (λ p. Divides g p (quotientOf g p) (remainderOf g p)) (rw (quotient-zero g, remainder-zero g) (record { identity = sym (ap (λ x. bitXor x 0) (times-zero (g .poly))); bound = pow-pos (g .degree) }))
+    (λ p ih. rw (quotient-step g p, remainder-step g p) (row g p (quotientOf g (p / 2)) (remainderOf g (p / 2)) ih))
 
 -- only 0 has a multiple of degree below that of g
 vanishes : (g : Generator) (e : ℕ) → times e (g .poly) < 2 ^ g .degree → e ≡ 0
@@ -107,20 +107,20 @@ only g p q r h q′ r′ k = (same-q, xor-zero r′ r (sym sums ∙ ap (λ x. bi
     same-q : q′ ≡ q
     same-q = xor-zero q′ q (vanishes g (bitXor q′ q) (rw (times-sum q′ q (g .poly), sums) (xor-lt (g .degree) r′ r (k .bound) (h .bound))))
 
-pub pair : (g : Generator) (p q r : ℕ) → Divides g p q r → (quotient g p ≡ q) × (remainder g p ≡ r)
-pair g p q r h = only g p q r h (quotient g p) (remainder g p) (divides g p)
+pub pair : (g : Generator) (p q r : ℕ) → Divides g p q r → (quotientOf g p ≡ q) × (remainderOf g p ≡ r)
+pair g p q r h = only g p q r h (quotientOf g p) (remainderOf g p) (divides g p)
 
 sum-divides : (g : Generator) (a b : ℕ)
-    → Divides g (bitXor a b) (bitXor (quotient g a) (quotient g b)) (bitXor (remainder g a) (remainder g b))
+    → Divides g (bitXor a b) (bitXor (quotientOf g a) (quotientOf g b)) (bitXor (remainderOf g a) (remainderOf g b))
 sum-divides g a b =
     let da = divides g a in
     let db = divides g b in
     record {
       identity =
           ap₂ bitXor (da .identity) (db .identity)
-          ∙ xor-swap (times (quotient g a) (g .poly)) (remainder g a) (times (quotient g b) (g .poly)) (remainder g b)
-          ∙ ap (λ x. bitXor x (bitXor (remainder g a) (remainder g b))) (sym (times-sum (quotient g a) (quotient g b) (g .poly)));
-      bound = xor-lt (g .degree) (remainder g a) (remainder g b) (da .bound) (db .bound);
+          ∙ xor-swap (times (quotientOf g a) (g .poly)) (remainderOf g a) (times (quotientOf g b) (g .poly)) (remainderOf g b)
+          ∙ ap (λ x. bitXor x (bitXor (remainderOf g a) (remainderOf g b))) (sym (times-sum (quotientOf g a) (quotientOf g b) (g .poly)));
+      bound = xor-lt (g .degree) (remainderOf g a) (remainderOf g b) (da .bound) (db .bound);
     }
 
 pub additive : (g : Generator) → Additive g
@@ -134,17 +134,17 @@ pub pow-below : (i j : ℕ) → 2 ^ i < 2 ^ j → i < j
 pow-below i j h = elim (decLt i j) [ yes l ↦ l | no m ↦ absurd (omega (arith, pow-mono {i = j} {j = i} (omega arith))) ]
 
 -- a dividend of k coefficients more than the degree has a quotient of k
-pub quotient-lt : (g : Generator) (k p : ℕ) → p < 2 ^ (k + g .degree) → quotient g p < 2 ^ k
-quotient-lt g k p h = go (quotient g p) refl
+pub quotient-lt : (g : Generator) (k p : ℕ) → p < 2 ^ (k + g .degree) → quotientOf g p < 2 ^ k
+quotient-lt g k p h = go (quotientOf g p) refl
   where
-    go : (q : ℕ) → quotient g p ≡ q → quotient g p < 2 ^ k
+    go : (q : ℕ) → quotientOf g p ≡ q → quotientOf g p < 2 ^ k
     go zero e = rw e (pow-pos k)
     go (suc q) e =
-        let n = has-degree (quotient g p) (omega arith) in
+        let n = has-degree (quotientOf g p) (omega arith) in
         let m = n .0 + g .degree in
         let d = divides g p in
-        let product = degree-times (n .0) (g .degree) (quotient g p) (g .poly) (n .1) (g .leads) in
-        let rest : remainder g p / 2 ^ m ≡ 0 = div-eq-of-lt (omega (arith, d .bound, pow-mono {i = g .degree} {j = m} (omega arith))) in
-        let top : Degree p m = ap (λ x. x / 2 ^ m) (d .identity) ∙ xor-shr (times (quotient g p) (g .poly)) (remainder g p) m ∙ ap₂ bitXor product rest in
+        let product = degree-times (n .0) (g .degree) (quotientOf g p) (g .poly) (n .1) (g .leads) in
+        let rest : remainderOf g p / 2 ^ m ≡ 0 = div-eq-of-lt (omega (arith, d .bound, pow-mono {i = g .degree} {j = m} (omega arith))) in
+        let top : Degree p m = ap (λ x. x / 2 ^ m) (d .identity) ∙ xor-shr (times (quotientOf g p) (g .poly)) (remainderOf g p) m ∙ ap₂ bitXor product rest in
         let less : m < k + g .degree = pow-below m (k + g .degree) (omega (arith, degree-ge p m top)) in
-        omega (arith, degree-lt (quotient g p) (n .0) (n .1), pow-mono {i = suc (n .0)} {j = k} (omega arith))
+        omega (arith, degree-lt (quotientOf g p) (n .0) (n .1), pow-mono {i = suc (n .0)} {j = k} (omega arith))

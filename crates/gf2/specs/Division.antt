@@ -13,14 +13,14 @@ pub record Divides (g : Generator) (p q r : ℕ) : Type 0 where
 
 -- long division: the coefficients of p are brought down from the highest on, and g is taken away
 -- wherever its degree is reached
-unfoldable pub remainder : Generator → ℕ → ℕ
+unfoldable pub remainderOf : Generator → ℕ → ℕ
 unfolding byBits
-remainder g p = byBits 0 (λ n rest. let x = rest * 2 + n % 2 in bitXor x (x / 2 ^ g .degree * g .poly)) p
+remainderOf g p = byBits 0 (λ n rest. let x = rest * 2 + n % 2 in bitXor x (x / 2 ^ g .degree * g .poly)) p
 
 -- a coefficient is 1 where g was taken away
-unfoldable pub quotient : Generator → ℕ → ℕ
+unfoldable pub quotientOf : Generator → ℕ → ℕ
 unfolding byBits
-quotient g p = byBits 0 (λ n rest. rest * 2 + (remainder g (n / 2) * 2 + n % 2) / 2 ^ g .degree) p
+quotientOf g p = byBits 0 (λ n rest. rest * 2 + (remainderOf g (n / 2) * 2 + n % 2) / 2 ^ g .degree) p
 
 -- there is no other pair
 abbrev pub OnlyPair : Generator → ℕ → ℕ → ℕ → Type 0
@@ -28,5 +28,5 @@ OnlyPair g p q r = (q′ r′ : ℕ) → Divides g p q′ r′ → (q′ ≡ q) 
 
 -- division respects addition
 pub record Additive (g : Generator) : Type 0 where
-  pub quotients : (a b : ℕ) → quotient g (bitXor a b) ≡ bitXor (quotient g a) (quotient g b)
-  pub remainders : (a b : ℕ) → remainder g (bitXor a b) ≡ bitXor (remainder g a) (remainder g b)
+  pub quotients : (a b : ℕ) → quotientOf g (bitXor a b) ≡ bitXor (quotientOf g a) (quotientOf g b)
+  pub remainders : (a b : ℕ) → remainderOf g (bitXor a b) ≡ bitXor (remainderOf g a) (remainderOf g b)

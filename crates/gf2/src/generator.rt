@@ -2,6 +2,8 @@
 ghost use mathlib.Core.Path.{_≡_};
 ghost use Prim.Native.Nat.{_/_, _%_, _^_, _<_, _≤_};
 
+mod methods;
+
 #[derive(Clone, Copy)]
 pub struct Generator {
     // bit k is the coefficient of x^k
@@ -13,7 +15,7 @@ pub struct Generator {
     ghost least: { 4 ≤ degree },
     ghost most: { degree ≤ 16 },
     ghost positive: { 0 < lowest },
-    // below x^lowest there is the constant term 1 and no other
+    // below x^lowest stands the constant term 1 and nothing else
     ghost apart: { poly % 2 ^ lowest ≡ 1 },
     ghost present: { poly / 2 ^ lowest % 2 ≡ 1 },
 }

@@ -1,3 +1,3 @@
-// Polynomials over GF(2) and division by a generator. A polynomial is a number: bit k is the coefficient of x^k.
+// Polynomials over GF(2) as numbers, and division by a generator. It knows nothing of addresses or routes.
+pub mod division;
 pub mod generator;
-pub mod divide;

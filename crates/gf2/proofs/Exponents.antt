@@ -1,0 +1,81 @@
+-- A generator's degree and lowest exponent, from the zeros at either end of its number. Assumes nothing.
+use mathlib.Core.Path.{_≡_, refl, sym, ap, _∙_}
+use mathlib.Core.Logic.{_⊎_, inl, inr, ⊎-elim}
+use Prim.Native.Nat.{ℕ, zero, suc, _+_, _-_, _*_, _/_, _%_, _^_, _≤_, _<_}
+use native.Mathlib.Nat.{mod-one, div-one, pow-suc}
+use native.Mathlib.Omega.{arith}
+use lib.Arith.{digits-div, digits-mod}
+use lib.Count.{leadingZeros, trailingZeros, under, leading-top}
+use lib.Pow.{pow-pos, pow-mono, split}
+use Rattle.gf2.specs.Poly.{Degree, IsGenerator}
+use Rattle.gf2.proofs.Digits.{shr-suc, mod-suc, bit-cases}
+use Rattle.gf2.proofs.Products.{degree-by, degree-ge, degree-lt}
+use Rattle.gf2.proofs.Quotients.{pow-below}
+
+-- what a generator's number is
+pub record Range (n : ℕ) : Type 0 where
+  pub odd : n % 2 ≡ 1
+  pub low : 2 ^ 4 ≤ n
+  pub high : n < 2 ^ 17
+
+pub generator-range : (n : ℕ) → IsGenerator n → Range n
+generator-range n g = record {
+  odd = g .constant;
+  low = omega (arith, degree-ge n (g .degree) (g .leads), pow-mono {i = 4} {j = g .degree} (g .least));
+  high = omega (arith, degree-lt n (g .degree) (g .leads), pow-mono {i = suc (g .degree)} {j = 17} (omega (arith, g .most)));
+}
+
+pub record Leading (n d : ℕ) : Type 0 where
+  pub leads : Degree n d
+  pub least : 4 ≤ d
+  pub most : d ≤ 16
+
+pub leading : (n : ℕ) → Range n → Leading n (31 - leadingZeros 32 n)
+leading n h =
+    let top = leading-top 32 n (omega (arith, h .low)) (omega (arith, h .high)) in
+    let is : 31 - leadingZeros 32 n ≡ top .0 = omega (arith, top .1) in
+    rw is (record {
+      leads = degree-by n (top .0) (top .2) (top .3);
+      least = omega (arith, pow-below 4 (suc (top .0)) (omega (arith, h .low, top .3)));
+      most = omega (arith, pow-below (top .0) 17 (omega (arith, h .high, top .2)));
+    })
+
+-- the lowest digit that is set
+pub record Lowest (m t : ℕ) : Type 0 where
+  pub below : m % 2 ^ t ≡ 0
+  pub at : m / 2 ^ t % 2 ≡ 1
+
+pub trailing : (k m : ℕ) → 0 < m → m < 2 ^ k → Lowest m (trailingZeros k m)
+unfolding trailingZeros
+trailing zero m h l = absurd (omega arith)
+trailing (suc k) m h l = ⊎-elim (even (trailing k (m / 2))) odd (bit-cases m)
+  where
+    even : (0 < m / 2 → m / 2 < 2 ^ k → Lowest (m / 2) (trailingZeros k (m / 2))) → m % 2 ≡ 0 → Lowest m (under (m % 2) (trailingZeros k (m / 2)))
+    even half e =
+        let r = half (omega arith) (omega (arith, pow-suc 2 k)) in
+        let t = trailingZeros k (m / 2) in
+        rw e (record { below = mod-suc m t ∙ omega (arith, r .below); at = ap (λ x. x % 2) (shr-suc m t) ∙ r .at })
+    odd : m % 2 ≡ 1 → Lowest m (under (m % 2) (trailingZeros k (m / 2)))
+    odd e = rw e (record { below = mod-one m; at = ap (λ x. x % 2) (div-one m) ∙ e })
+
+-- the smallest exponent above 0 in an odd number is the lowest digit of the number less 1
+pub record Low (n t : ℕ) : Type 0 where
+  pub positive : 0 < t
+  pub apart : n % 2 ^ t ≡ 1
+  pub present : n / 2 ^ t % 2 ≡ 1
+
+low : (n t : ℕ) → n % 2 ≡ 1 → Lowest (n - 1) t → Low n t
+low n zero odd r = absurd (omega (arith, r .at))
+low n (suc t) odd r = record {
+  positive = omega arith;
+  apart = ap (λ x. x % 2 ^ suc t) parts ∙ digits-mod ((n - 1) / 2 ^ suc t) one;
+  present = ap (λ x. x / 2 ^ suc t % 2) parts ∙ ap (λ x. x % 2) (digits-div ((n - 1) / 2 ^ suc t) one) ∙ r .at;
+}
+  where
+    parts : n ≡ (n - 1) / 2 ^ suc t * 2 ^ suc t + 1
+    parts = omega (arith, split (n - 1) (suc t), r .below)
+    one : 1 < 2 ^ suc t
+    one = omega (arith, pow-mono {i = 1} {j = suc t} (omega arith))
+
+pub lowest : (n : ℕ) → Range n → Low n (trailingZeros 32 (n - 1))
+lowest n h = low n (trailingZeros 32 (n - 1)) (h .odd) (trailing 32 (n - 1) (omega (arith, h .low)) (omega (arith, h .high)))
