@@ -1,12 +1,15 @@
 -- A generator's degree and lowest exponent, from the zeros at either end of its number. Assumes nothing.
-use mathlib.Core.Path.{_≡_, refl, sym, ap, _∙_}
+use mathlib.Core.Path.{_≡_, refl, sym, ap, ap₂, _∙_}
 use mathlib.Core.Logic.{_⊎_, inl, inr, ⊎-elim}
 use Prim.Native.Nat.{ℕ, zero, suc, _+_, _-_, _*_, _/_, _%_, _^_, _≤_, _<_}
-use native.Mathlib.Nat.{mod-one, div-one, pow-suc}
+use native.Mathlib.Nat.{mod-one, div-one, pow-suc, div-eq-of-lt, add-zero}
 use native.Mathlib.Omega.{arith}
 use lib.Arith.{digits-div, digits-mod}
 use lib.Count.{leadingZeros, trailingZeros, under, leading-top}
-use lib.Pow.{pow-pos, pow-mono, split}
+use lib.Pow.{pow-pos, pow-mono, split, mod-mod-pow, shr-shr}
+use lib.Bits.{bitXor, xor-shr, xor-block, xor-zero-r}
+use native.Mathlib.Decide.{decLe}
+use Rattle.gf2.specs.declared.generator.Generator.{Generator}
 use Rattle.gf2.specs.Poly.{Degree, IsGenerator}
 use Rattle.gf2.proofs.Digits.{shr-suc, mod-suc, bit-cases}
 use Rattle.gf2.proofs.Products.{degree-by, degree-ge, degree-lt}
@@ -79,3 +82,38 @@ low n (suc t) odd r = record {
 
 pub lowest : (n : ℕ) → Range n → Low n (trailingZeros 32 (n - 1))
 lowest n h = low n (trailingZeros 32 (n - 1)) (h .odd) (trailing 32 (n - 1) (omega (arith, h .low)) (omega (arith, h .high)))
+
+-- what follows of any generator
+
+pub constant : (g : Generator) → g .poly % 2 ≡ 1
+constant g =
+    let e : g .lowest ≡ (g .lowest - 1) + 1 = omega (arith, g .positive) in
+    sym (mod-mod-pow (g .poly) (g .lowest - 1) 1) ∙ ap (λ m. g .poly % 2 ^ m % 2) (sym e) ∙ ap (λ x. x % 2) (g .apart)
+
+pub lowest-le : (g : Generator) → g .lowest ≤ g .degree
+lowest-le g = elim (decLe (g .lowest) (g .degree)) [
+    yes h ↦ h
+  | no n ↦
+      let e : g .degree + (g .lowest - g .degree) ≡ g .lowest = omega arith in
+      let none : g .poly / 2 ^ g .lowest ≡ 0 =
+        ap (λ m. g .poly / 2 ^ m) (sym e) ∙ sym (shr-shr (g .poly) (g .degree) (g .lowest - g .degree))
+        ∙ ap (λ x. x / 2 ^ (g .lowest - g .degree)) (g .leads)
+        ∙ div-eq-of-lt (omega (arith, pow-mono {i = 1} {j = g .lowest - g .degree} (omega arith))) in
+      absurd (omega (arith, none, g .present))
+  ]
+
+-- g + 1 has the degree of g
+pub plus-one-degree : (g : Generator) → Degree (bitXor (g .poly) 1) (g .degree)
+plus-one-degree g =
+    let one : 1 / 2 ^ g .degree ≡ 0 = div-eq-of-lt (omega (arith, pow-mono {i = 4} {j = g .degree} (g .least))) in
+    xor-shr (g .poly) 1 (g .degree) ∙ ap₂ bitXor (g .leads) one
+
+-- and the factor x^lowest, beside one with constant term 1
+pub plus-one : (g : Generator) → bitXor (g .poly) 1 ≡ g .poly / 2 ^ g .lowest * 2 ^ g .lowest
+plus-one g =
+    let t = g .lowest in
+    let h = g .poly / 2 ^ t in
+    let one : 1 < 2 ^ t = omega (arith, pow-mono {i = 1} {j = t} (g .positive)) in
+    let parts : g .poly ≡ h * 2 ^ t + 1 = sym (split (g .poly) t) ∙ ap (λ x. h * 2 ^ t + x) (g .apart) in
+    let zero : 1 ≡ 0 * 2 ^ t + 1 = omega arith in
+    ap₂ bitXor parts zero ∙ xor-block t h 0 1 1 one one ∙ ap (λ x. x * 2 ^ t + 0) (xor-zero-r h) ∙ add-zero (h * 2 ^ t)

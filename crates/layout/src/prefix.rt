@@ -1,0 +1,14 @@
+// Prefixes.
+ghost use mathlib.Core.Path.{_≡_};
+ghost use Prim.Native.Nat.{_-_, _*_, _/_, _%_, _^_, _<_, _≤_};
+use crate::width::Width;
+
+#[derive(Clone, Copy)]
+pub struct Prefix {
+    width: Width,
+    address: u128,
+    length: u8,
+    ghost within: { length ≤ width .bits },
+    ghost fits: { address < 2 ^ (width .bits) },
+    ghost clear: { address % 2 ^ (width .bits - length) ≡ 0 },
+}
