@@ -65,7 +65,7 @@ module _ (g : Generator) where
     parts = sym (split E b) ∙ sym (xor-shifted (E / 2 ^ b) b (E % 2 ^ b) (mod-lt E (pow-pos b)))
 
   -- the tread is so near the end that the rest is the remainder itself
-  near : (E b : ℕ) → remainderOf g (E / 2 ^ b * 2 ^ b) ≡ 0 → quotientOf g E ≡ remainderOf g E → b ≤ g .degree → E ≡ 0
+  pub near : (E b : ℕ) → remainderOf g (E / 2 ^ b * 2 ^ b) ≡ 0 → quotientOf g E ≡ remainderOf g E → b ≤ g .degree → E ≡ 0
   near E b s e h =
       let R = E / 2 ^ b * 2 ^ b in
       let L = E % 2 ^ b in
@@ -94,7 +94,7 @@ module _ (g : Generator) where
       let empty : R ≡ 0 = upper E b s ∙ ap (λ q. times q (g .poly)) none ∙ times-zero (g .poly) in
       omega (arith, split E b, empty, low)
 
-  far : (E a b : ℕ) → remainderOf g (E / 2 ^ b * 2 ^ b) ≡ 0 → quotientOf g E ≡ remainderOf g E → E % 2 ^ a ≡ 0
+  pub far : (E a b : ℕ) → remainderOf g (E / 2 ^ b * 2 ^ b) ≡ 0 → quotientOf g E ≡ remainderOf g E → E % 2 ^ a ≡ 0
       → g .degree < b → a ≤ b → b - a ≤ g .degree - g .lowest → E ≡ 0
   far E a b s e m h le k = go (quotientOf g E) refl
     where
@@ -115,7 +115,7 @@ module _ (g : Generator) where
             | no n ↦ absurd (omega (arith, multiple-below (a - g .lowest) (quotientOf g E) (factor E a e m) (omega arith)))
             ]
 
-  short : (E a : ℕ) → quotientOf g E ≡ remainderOf g E → E % 2 ^ a ≡ 0 → g .degree + g .lowest ≤ a → E ≡ 0
+  pub short : (E a : ℕ) → quotientOf g E ≡ remainderOf g E → E % 2 ^ a ≡ 0 → g .degree + g .lowest ≤ a → E ≡ 0
   short E a e m h =
       vanishes E e (multiple-below (a - g .lowest) (quotientOf g E) (factor E a e m)
         (omega (arith, quotient-small E e, pow-mono {i = g .degree} {j = a - g .lowest} (omega arith))))

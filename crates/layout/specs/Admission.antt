@@ -1,7 +1,7 @@
 -- Colonies, digests and admission, over a width W and a generator g, and what it means that admission is exact.
 -- A tread is a prefix length at which a route may stand: it then stands in the bucket of its prefix cut to that length.
 -- Assumes nothing.
-use Prim.Native.Nat.{ℕ, _+_, _-_, _≤_}
+use Prim.Native.Nat.{ℕ, _+_, _-_, _*_, _^_}
 use mathlib.Core.Path.{_≡_}
 use mathlib.Core.Bool.{Bool, true, false, _&&_, _||_}
 use mathlib.Core.Logic.{_≢_}
@@ -50,3 +50,8 @@ pub record Clash (W : ℕ) (g : Generator) (w l : ℕ) : Type 0 where
 pub record Exact (W : ℕ) (g : Generator) (w l : ℕ) : Type 0 where
   pub apart : admitted W g w l ≡ true → ToldApart W g w l
   pub clash : admitted W g w l ≡ false → Clash W g w l
+
+-- the prefix of length w that is confused with P where w is not admitted: P plus the shortest multiple of
+-- x^(W - w) among the multiples of g + 1 by a power of x
+abbrev pub confusedWith : ℕ → Generator → ℕ → ℕ → ℕ
+confusedWith W g w P = bitXor P (bitXor (g .poly) 1 * 2 ^ (W - w - g .lowest))
