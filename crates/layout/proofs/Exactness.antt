@@ -32,20 +32,20 @@ module _ (W : ℕ) (g : Generator) (w l : ℕ) (lw : l ≤ w) (wW : w ≤ W) whe
   refused : admitted W g w l ≡ false → Refused W g w l
   refused e =
       let rest = ⊎-elim (λ f. absurd (omega (arith, leb-false l w f))) (λ f. f) (and-cases (leb l w) _ e) in
-      let one = or-parts (leb (W - l) (g .degree)) _ rest in
-      let two = or-parts (leb (g .degree + g .lowest) (W - w)) _ (one .1) in
+      let three = or-parts (leb (W - l) (g .degree) || leb (g .degree + g .lowest) (W - w)) (leb (w - l) (g .degree - g .lowest)) rest in
+      let two = or-parts (leb (W - l) (g .degree)) (leb (g .degree + g .lowest) (W - w)) (three .0) in
       record {
-        far = leb-false (W - l) (g .degree) (one .0);
-        long = leb-false (g .degree + g .lowest) (W - w) (two .0);
-        apart = leb-false (w - l) (g .degree - g .lowest) (two .1);
+        far = leb-false (W - l) (g .degree) (two .0);
+        long = leb-false (g .degree + g .lowest) (W - w) (two .1);
+        apart = leb-false (w - l) (g .degree - g .lowest) (three .1);
       }
 
   allowed : admitted W g w l ≡ true → (W - l ≤ g .degree) ⊎ ((g .degree + g .lowest ≤ W - w) ⊎ (w - l ≤ g .degree - g .lowest))
-  allowed e =
-      ⊎-elim (λ f. inl (leb-true (W - l) (g .degree) f))
-        (λ f. inr (⊎-elim (λ k. inl (leb-true (g .degree + g .lowest) (W - w) k)) (λ k. inr (leb-true (w - l) (g .degree - g .lowest) k))
-          (or-cases (leb (g .degree + g .lowest) (W - w)) _ f)))
-        (or-cases (leb (W - l) (g .degree)) _ (and-parts (leb l w) _ e .1))
+  allowed e = ⊎-elim
+      (λ f. ⊎-elim (λ k. inl (leb-true (W - l) (g .degree) k)) (λ k. inr (inl (leb-true (g .degree + g .lowest) (W - w) k)))
+        (or-cases (leb (W - l) (g .degree)) (leb (g .degree + g .lowest) (W - w)) f))
+      (λ f. inr (inr (leb-true (w - l) (g .degree - g .lowest) f)))
+      (or-cases (leb (W - l) (g .degree) || leb (g .degree + g .lowest) (W - w)) (leb (w - l) (g .degree - g .lowest)) (and-parts (leb l w) _ e .1))
 
   -- the sum of two prefixes that are alike
   module _ (P Q : ℕ) (alike : Alike W g l P Q) where

@@ -1,7 +1,8 @@
 -- Rounding and multiples of powers of x. Assumes nothing.
 use mathlib.Core.Path.{_≡_, refl, sym, ap, ap₂, _∙_}
 use Prim.Native.Nat.{ℕ, zero, suc, _+_, _-_, _*_, _/_, _%_, _^_, _≤_, _<_}
-use native.Mathlib.Nat.{mul-mod-left, mul-assoc, mod-eq-of-lt}
+use native.Mathlib.Nat.{mul-mod-left, mul-assoc, mod-eq-of-lt, div-eq-of-lt}
+use native.Mathlib.Decide.{decLe}
 use native.Mathlib.Omega.{arith}
 use lib.Bits.{bitXor, xor-shr, xor-mod}
 use lib.Pow.{pow-pos, pow-add}
@@ -24,3 +25,7 @@ multiple-of x i j h =
 -- a multiple of x^k of degree below k is 0
 pub multiple-below : (k x : ℕ) → x % 2 ^ k ≡ 0 → x < 2 ^ k → x ≡ 0
 multiple-below k x h l = sym (mod-eq-of-lt l) ∙ h
+
+-- a number that does not go away under a shift
+pub shr-some : (k x : ℕ) → (x / 2 ^ k ≡ 0 → ⊥) → 2 ^ k ≤ x
+shr-some k x h = elim (decLe (2 ^ k) x) [ yes l ↦ l | no n ↦ absurd (h (div-eq-of-lt (omega arith))) ]

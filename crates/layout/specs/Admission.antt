@@ -22,7 +22,7 @@ digest W g P l = bitXor (bitXor (quotientOf g P) (remainderOf g P)) (colony W g 
 -- the length w is admitted at the tread l
 abbrev pub admitted : ℕ → Generator → ℕ → ℕ → Bool
 admitted W g w l =
-    leb l w && (leb (W - l) (g .degree) || (leb (g .degree + g .lowest) (W - w) || leb (w - l) (g .degree - g .lowest)))
+    leb l w && ((leb (W - l) (g .degree) || leb (g .degree + g .lowest) (W - w)) || leb (w - l) (g .degree - g .lowest))
 
 -- P and Q leave one digest in one bucket under l
 pub record Alike (W : ℕ) (g : Generator) (l P Q : ℕ) : Type 0 where

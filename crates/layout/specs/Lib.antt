@@ -1,2 +1,4 @@
 pub mod Addresses
 pub mod Admission
+pub mod Treads
+pub mod Prefixes

@@ -1,5 +1,6 @@
 // Asking whether a number is a generator, and what a generator tells of itself.
 ghost use mathlib.Core.Path.{_≡_};
+ghost use Prim.Native.Nat.{_≤_};
 ghost use Rattle.gf2.specs.Poly.{IsGenerator};
 ghost use Rattle.std.specs.Options.{Cases};
 use crate::generator::Generator;
@@ -29,9 +30,10 @@ impl Generator {
         self.degree
     }
 
-    // The smallest exponent above 0 with coefficient 1.
+    // The smallest exponent above 0 with coefficient 1, which is the degree at most.
     pub fn lowest(&self) -> u32
-        ensures { λ r. ⌜ r ≡ now (self .entry) .lowest ⌝ }
+        ensures value { λ r. ⌜ r ≡ now (self .entry) .lowest ⌝ }
+        ensures bound { λ r. ⌜ r ≤ now (self .entry) .degree ⌝ }
     {
         self.lowest
     }
