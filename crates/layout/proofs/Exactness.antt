@@ -3,7 +3,7 @@ use mathlib.Core.Path.{_≡_, refl, sym, ap, ap₂, _∙_, subst}
 use mathlib.Core.Bool.{Bool, true, false, _&&_, _||_}
 use mathlib.Core.Logic.{_≢_, _⊎_, inl, inr, ⊎-elim}
 use Prim.Native.Nat.{ℕ, zero, suc, _+_, _-_, _*_, _/_, _%_, _^_, _≤_, _<_}
-use native.Mathlib.Nat.{div-eq-of-lt, zero-mul, mul-assoc, zero-mod, one-mul, mul-le-mul-right}
+use native.Mathlib.Nat.{div-eq-of-lt, zero-mul, mul-assoc, zero-mod, one-mul, mul-le-mul-right, mod-eq-of-lt}
 use native.Mathlib.Decide.{decLe}
 use native.Mathlib.Omega.{arith}
 use lib.Bits.{bitXor, xor-lt, xor-zero-r, xor-self, xor-assoc}
@@ -29,7 +29,7 @@ pub record Refused (W : ℕ) (g : Generator) (w l : ℕ) : Type 0 where
   pub apart : g .degree - g .lowest < w - l
 
 module _ (W : ℕ) (g : Generator) (w l : ℕ) (lw : l ≤ w) (wW : w ≤ W) where
-  refused : admitted W g w l ≡ false → Refused W g w l
+  pub refused : admitted W g w l ≡ false → Refused W g w l
   refused e =
       let rest = ⊎-elim (λ f. absurd (omega (arith, leb-false l w f))) (λ f. f) (and-cases (leb l w) _ e) in
       let three = or-parts (leb (W - l) (g .degree) || leb (g .degree + g .lowest) (W - w)) (leb (w - l) (g .degree - g .lowest)) rest in
@@ -114,6 +114,12 @@ module _ (W : ℕ) (g : Generator) (w l : ℕ) (lw : l ≤ w) (wW : w ≤ W) whe
     unseen-colony =
         ap (λ x. remainderOf g (x * 2 ^ (W - l))) (div-eq-of-lt unseen-small)
         ∙ ap (remainderOf g) (zero-mul (2 ^ (W - l))) ∙ remainder-zero g
+
+    -- what a shift in 128 bits makes of it
+    pub shifted : (x s : ℕ) → W ≤ 128 → x ≡ bitXor (g .poly) 1 → s ≡ W - w - g .lowest → x * 2 ^ s % 2 ^ 128 ≡ bitXor (g .poly) 1 * 2 ^ (W - w - g .lowest)
+    shifted x s fits ex es =
+        ap₂ (λ a b. a * 2 ^ b % 2 ^ 128) ex es
+        ∙ mod-eq-of-lt (omega (arith, unseen-small, pow-mono {i = W - l} {j = 128} (omega arith)))
 
     pub confused : (P : ℕ) → IsPrefix W P w → Confused W g w l P (confusedWith W g w P)
     confused P p = record {

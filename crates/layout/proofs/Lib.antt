@@ -1,3 +1,4 @@
 pub mod Rounding
 pub mod Kernel
 pub mod Exactness
+pub mod Homes
