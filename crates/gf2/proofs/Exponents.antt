@@ -117,3 +117,6 @@ plus-one g =
     let parts : g .poly ≡ h * 2 ^ t + 1 = sym (split (g .poly) t) ∙ ap (λ x. h * 2 ^ t + x) (g .apart) in
     let zero : 1 ≡ 0 * 2 ^ t + 1 = omega arith in
     ap₂ bitXor parts zero ∙ xor-block t h 0 1 1 one one ∙ ap (λ x. x * 2 ^ t + 0) (xor-zero-r h) ∙ add-zero (h * 2 ^ t)
+
+pub is-generator : (g : Generator) → IsGenerator (g .poly)
+is-generator g = record { degree = g .degree; leads = g .leads; least = g .least; most = g .most; constant = constant g }

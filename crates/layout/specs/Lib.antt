@@ -2,3 +2,4 @@ pub mod Addresses
 pub mod Admission
 pub mod Treads
 pub mod Prefixes
+pub mod Layouts

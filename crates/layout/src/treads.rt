@@ -2,9 +2,9 @@
 ghost use mathlib.Core.Path.{_≡_};
 ghost use mathlib.Core.Bool.{true, false};
 ghost use Prim.Native.Nat.{ℕ, _<_, _≤_};
-ghost use lib.ListN.{length as count, getD};
+ghost use lib.ListN.{length as count, getD, take};
 ghost use Rattle.std.specs.Options.{Cases};
-ghost use Rattle.std.specs.Orderings.{Decides};
+ghost use Rattle.std.specs.Orderings.{When};
 ghost use Rattle.layout.specs.Treads.{Lawful, homeTread, AllSettled, FirstUnsettled};
 use crate::width::Width;
 use gf2::generator::Generator;
@@ -14,7 +14,7 @@ pub const MAX_TREADS: usize = 40;
 
 // Whether there are 1 to 40 lengths that begin with 0, rise strictly and never pass the width.
 pub fn is_tread_list(width: Width, treads: &[u8]) -> bool
-    ensures { λ r. ⌜ Decides r (Lawful (width .bits) (now (treads .entry))) ⌝ }
+    ensures { λ r. ⌜ When r (Lawful (width .bits) (now (treads .entry))) (Lawful (width .bits) (now (treads .entry)) → ⊥) ⌝ }
 {
     if treads.is_empty() || treads.len() > MAX_TREADS || treads[0] != 0 {
         return false;
@@ -55,4 +55,16 @@ pub(crate) fn first_unsettled(width: Width, generator: &Generator, treads: &[u8]
         }
     }
     None
+}
+
+// The treads at the beginning of an array that has room for any list.
+pub(crate) fn copied(treads: &[u8]) -> [u8; MAX_TREADS]
+    requires { ⌜ count (now treads) ≤ 40 ⌝ }
+    ensures { λ r. ⌜ take (count (now (treads .entry))) r ≡ now (treads .entry) ⌝ }
+{
+    let mut lengths = [0; MAX_TREADS];
+    for (i, tread) in treads.iter().enumerate() {
+        lengths[i] = *tread;
+    }
+    lengths
 }
