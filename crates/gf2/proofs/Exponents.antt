@@ -2,11 +2,11 @@
 use mathlib.Core.Path.{_≡_, refl, sym, ap, ap₂, _∙_}
 use mathlib.Core.Logic.{_⊎_, inl, inr, ⊎-elim}
 use Prim.Native.Nat.{ℕ, zero, suc, _+_, _-_, _*_, _/_, _%_, _^_, _≤_, _<_}
-use native.Mathlib.Nat.{mod-one, div-one, pow-suc, div-eq-of-lt, add-zero}
+use native.Mathlib.Nat.{mod-one, div-one, pow-suc, div-eq-of-lt, add-zero, le-antisymm}
 use native.Mathlib.Omega.{arith}
 use lib.Arith.{digits-div, digits-mod}
 use lib.Count.{leadingZeros, trailingZeros, under, leading-top}
-use lib.Pow.{pow-pos, pow-mono, split, mod-mod-pow, shr-shr}
+use lib.Pow.{pow-pos, pow-mono, split, mod-mod-pow, shr-shr, field}
 use lib.Bits.{bitXor, xor-shr, xor-block, xor-zero-r}
 use native.Mathlib.Decide.{decLe}
 use Rattle.gf2.specs.declared.generator.Generator.{Generator}
@@ -120,3 +120,33 @@ plus-one g =
 
 pub is-generator : (g : Generator) → IsGenerator (g .poly)
 is-generator g = record { degree = g .degree; leads = g .leads; least = g .least; most = g .most; constant = constant g }
+
+-- a generator's number determines its exponents
+
+degree-le : (p n m : ℕ) → Degree p n → Degree p m → n ≤ m
+degree-le p n m a b = omega (arith, pow-below n (suc m) (omega (arith, degree-ge p n a, degree-lt p m b)))
+
+lowest-not-lt : (p t s : ℕ) → p / 2 ^ t % 2 ≡ 1 → p % 2 ^ s ≡ 1 → 0 < t → t < s → ⊥
+lowest-not-lt p t s set clear pos lt =
+    let j = s - t in
+    let sum : j + t ≡ s = omega arith in
+    let low : p / 2 ^ t % 2 ^ j ≡ 0 =
+      sym (field p j t) ∙ ap (λ m. p % 2 ^ m / 2 ^ t) sum ∙ ap (λ x. x / 2 ^ t) clear
+      ∙ div-eq-of-lt (omega (arith, pow-mono {i = 1} {j = t} pos)) in
+    let split-j : (j - 1) + 1 ≡ j = omega arith in
+    let bit : p / 2 ^ t % 2 ≡ 0 =
+      sym (mod-mod-pow (p / 2 ^ t) (j - 1) 1) ∙ ap (λ m. p / 2 ^ t % 2 ^ m % 2) split-j ∙ ap (λ x. x % 2) low in
+    omega arith
+
+pub same-degree : (g h : Generator) → g .poly ≡ h .poly → g .degree ≡ h .degree
+same-degree g h e =
+    let lead : Degree (g .poly) (h .degree) = ap (λ p. p / 2 ^ h .degree) e ∙ h .leads in
+    le-antisymm (degree-le (g .poly) (g .degree) (h .degree) (g .leads) lead) (degree-le (g .poly) (h .degree) (g .degree) lead (g .leads))
+
+pub same-lowest : (g h : Generator) → g .poly ≡ h .poly → g .lowest ≡ h .lowest
+same-lowest g h e =
+    let apart : g .poly % 2 ^ h .lowest ≡ 1 = ap (λ p. p % 2 ^ h .lowest) e ∙ h .apart in
+    let present : g .poly / 2 ^ h .lowest % 2 ≡ 1 = ap (λ p. p / 2 ^ h .lowest % 2) e ∙ h .present in
+    let above : g .lowest < h .lowest → ⊥ = lowest-not-lt (g .poly) (g .lowest) (h .lowest) (g .present) apart (g .positive) in
+    let below : h .lowest < g .lowest → ⊥ = lowest-not-lt (g .poly) (h .lowest) (g .lowest) present (g .apart) (h .positive) in
+    omega arith

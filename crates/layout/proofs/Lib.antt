@@ -2,3 +2,5 @@ pub mod Rounding
 pub mod Kernel
 pub mod Exactness
 pub mod Homes
+pub mod Tables
+pub mod NamedRows

@@ -3,3 +3,5 @@ pub mod Admission
 pub mod Treads
 pub mod Prefixes
 pub mod Layouts
+pub mod Named
+pub mod Figures

@@ -6,3 +6,4 @@ pub mod named;
 pub mod prefix;
 pub mod treads;
 pub mod width;
+pub mod figures;
