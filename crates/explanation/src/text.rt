@@ -1,0 +1,1 @@
+// How queries are answered in words.
