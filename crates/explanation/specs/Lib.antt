@@ -1,3 +1,4 @@
 pub mod Lines
 pub mod Queries
 pub mod Places
+pub mod Texts
