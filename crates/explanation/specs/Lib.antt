@@ -2,3 +2,4 @@ pub mod Lines
 pub mod Queries
 pub mod Places
 pub mod Texts
+pub mod Replies
