@@ -83,24 +83,24 @@ low n (suc t) odd r = record {
 pub lowest : (n : ℕ) → Range n → Low n (trailingZeros 32 (n - 1))
 lowest n h = low n (trailingZeros 32 (n - 1)) (h .odd) (trailing 32 (n - 1) (omega (arith, h .low)) (omega (arith, h .high)))
 
+-- no exponent is above the degree
+pub ordered : (n d t : ℕ) → Degree n d → n / 2 ^ t % 2 ≡ 1 → t ≤ d
+ordered n d t lead set = elim (decLe t d) [
+    yes h ↦ h
+  | no above ↦
+      let sum : d + (t - d) ≡ t = omega arith in
+      let none : n / 2 ^ t ≡ 0 =
+        ap (λ m. n / 2 ^ m) (sym sum) ∙ sym (shr-shr n d (t - d)) ∙ ap (λ x. x / 2 ^ (t - d)) lead
+        ∙ div-eq-of-lt (omega (arith, pow-mono {i = 1} {j = t - d} (omega arith))) in
+      absurd (omega (arith, none, set))
+  ]
+
 -- what follows of any generator
 
 pub constant : (g : Generator) → g .poly % 2 ≡ 1
 constant g =
     let e : g .lowest ≡ (g .lowest - 1) + 1 = omega (arith, g .positive) in
     sym (mod-mod-pow (g .poly) (g .lowest - 1) 1) ∙ ap (λ m. g .poly % 2 ^ m % 2) (sym e) ∙ ap (λ x. x % 2) (g .apart)
-
-pub lowest-le : (g : Generator) → g .lowest ≤ g .degree
-lowest-le g = elim (decLe (g .lowest) (g .degree)) [
-    yes h ↦ h
-  | no n ↦
-      let e : g .degree + (g .lowest - g .degree) ≡ g .lowest = omega arith in
-      let none : g .poly / 2 ^ g .lowest ≡ 0 =
-        ap (λ m. g .poly / 2 ^ m) (sym e) ∙ sym (shr-shr (g .poly) (g .degree) (g .lowest - g .degree))
-        ∙ ap (λ x. x / 2 ^ (g .lowest - g .degree)) (g .leads)
-        ∙ div-eq-of-lt (omega (arith, pow-mono {i = 1} {j = g .lowest - g .degree} (omega arith))) in
-      absurd (omega (arith, none, g .present))
-  ]
 
 -- g + 1 has the degree of g
 pub plus-one-degree : (g : Generator) → Degree (bitXor (g .poly) 1) (g .degree)

@@ -15,6 +15,7 @@ pub struct Generator {
     ghost least: { 4 ≤ degree },
     ghost most: { degree ≤ 16 },
     ghost positive: { 0 < lowest },
+    ghost ordered: { lowest ≤ degree },
     // below x^lowest stands the constant term 1 and nothing else
     ghost apart: { poly % 2 ^ lowest ≡ 1 },
     ghost present: { poly / 2 ^ lowest % 2 ≡ 1 },

@@ -16,7 +16,7 @@ use Rattle.gf2.specs.declared.generator.Generator.{Generator}
 use Rattle.gf2.proofs.Digits.{xor-cross, xor-cancel, xor-swap, xor-shl, xor-zero}
 use Rattle.gf2.proofs.Products.{times-power, degree-lt, degree-ge}
 use Rattle.gf2.proofs.Quotients.{divides, pair, additive, quotient-lt, remainder-zero}
-use Rattle.gf2.proofs.Exponents.{lowest-le, plus-one, plus-one-degree}
+use Rattle.gf2.proofs.Exponents.{plus-one, plus-one-degree}
 use Rattle.layout.specs.Addresses.{rounded, IsPrefix}
 use Rattle.layout.specs.Admission.{colony, digest, admitted, Alike, ToldApart, Confused, Clash, Exact, confusedWith}
 use Rattle.layout.proofs.Rounding.{rounded-sum, multiple-sum, multiple-of}
@@ -85,7 +85,7 @@ module _ (W : ℕ) (g : Generator) (w l : ℕ) (lw : l ≤ w) (wW : w ≤ W) whe
     unseen-small =
         let k = W - w - g .lowest in
         omega (arith, shl-lt (suc (g .degree)) k (degree-lt (bitXor (g .poly) 1) (g .degree) (plus-one-degree g)),
-          pow-mono {i = suc (g .degree) + k} {j = W - l} (omega (arith, rule .far, rule .apart, lowest-le g)))
+          pow-mono {i = suc (g .degree) + k} {j = W - l} (omega (arith, rule .far, rule .apart, g .ordered)))
 
     unseen-multiple : bitXor (g .poly) 1 * 2 ^ (W - w - g .lowest) % 2 ^ (W - w) ≡ 0
     unseen-multiple =
@@ -115,11 +115,9 @@ module _ (W : ℕ) (g : Generator) (w l : ℕ) (lw : l ≤ w) (wW : w ≤ W) whe
         ap (λ x. remainderOf g (x * 2 ^ (W - l))) (div-eq-of-lt unseen-small)
         ∙ ap (remainderOf g) (zero-mul (2 ^ (W - l))) ∙ remainder-zero g
 
-    -- what a shift in 128 bits makes of it
-    pub shifted : (x s : ℕ) → W ≤ 128 → x ≡ bitXor (g .poly) 1 → s ≡ W - w - g .lowest → x * 2 ^ s % 2 ^ 128 ≡ bitXor (g .poly) 1 * 2 ^ (W - w - g .lowest)
-    shifted x s fits ex es =
-        ap₂ (λ a b. a * 2 ^ b % 2 ^ 128) ex es
-        ∙ mod-eq-of-lt (omega (arith, unseen-small, pow-mono {i = W - l} {j = 128} (omega arith)))
+    -- no bit of it is lost in 128 bits
+    pub unseen-whole : W ≤ 128 → bitXor (g .poly) 1 * 2 ^ (W - w - g .lowest) % 2 ^ 128 ≡ bitXor (g .poly) 1 * 2 ^ (W - w - g .lowest)
+    unseen-whole fits = mod-eq-of-lt (omega (arith, unseen-small, pow-mono {i = W - l} {j = 128} (omega arith)))
 
     pub confused : (P : ℕ) → IsPrefix W P w → Confused W g w l P (confusedWith W g w P)
     confused P p = record {

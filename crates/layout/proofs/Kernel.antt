@@ -13,7 +13,7 @@ use Rattle.gf2.specs.declared.generator.Generator.{Generator}
 use Rattle.gf2.proofs.Digits.{xor-cross, xor-cancel}
 use Rattle.gf2.proofs.Products.{times-zero, times-sum-right, times-by-one, times-shl, degree-times, degree-ge, degree-lt, has-degree, divides-out}
 use Rattle.gf2.proofs.Quotients.{divides, pair, additive, quotient-lt, pow-below}
-use Rattle.gf2.proofs.Exponents.{constant, lowest-le, plus-one, plus-one-degree}
+use Rattle.gf2.proofs.Exponents.{constant, plus-one, plus-one-degree}
 use Rattle.layout.specs.Addresses.{rounded}
 use Rattle.layout.proofs.Rounding.{multiple-below}
 
@@ -107,7 +107,7 @@ module _ (g : Generator) where
             ∙ degree-times (n .0) (g .degree) (quotientOf g E) (bitXor (g .poly) 1) (n .1) (plus-one-degree g) in
           let top : n .0 + g .degree < b = pow-below (n .0 + g .degree) b (omega (arith, degree-ge E (n .0 + g .degree) degree, above E b s e h)) in
           let bottom : a - g .lowest < suc (n .0) = pow-below (a - g .lowest) (suc (n .0)) (omega (arith, degree-lt (quotientOf g E) (n .0) (n .1), least (omega arith))) in
-          absurd (omega (arith, lowest-le g))
+          absurd (omega (arith, g .ordered))
         where
           least : 0 < quotientOf g E → 2 ^ (a - g .lowest) ≤ quotientOf g E
           least pos = elim (decLe (2 ^ (a - g .lowest)) (quotientOf g E)) [

@@ -19,10 +19,13 @@ colony W g P l = remainderOf g (rounded W l P)
 abbrev pub digest : ℕ → Generator → ℕ → ℕ → ℕ
 digest W g P l = bitXor (bitXor (quotientOf g P) (remainderOf g P)) (colony W g P l)
 
+-- the tread is near the end of the address, or the length far from it, or the two are near each other
+abbrev pub keepsApart : ℕ → Generator → ℕ → ℕ → Bool
+keepsApart W g w l = (leb (W - l) (g .degree) || leb (g .degree + g .lowest) (W - w)) || leb (w - l) (g .degree - g .lowest)
+
 -- the length w is admitted at the tread l
 abbrev pub admitted : ℕ → Generator → ℕ → ℕ → Bool
-admitted W g w l =
-    leb l w && ((leb (W - l) (g .degree) || leb (g .degree + g .lowest) (W - w)) || leb (w - l) (g .degree - g .lowest))
+admitted W g w l = leb l w && keepsApart W g w l
 
 -- P and Q leave one digest in one bucket under l
 pub record Alike (W : ℕ) (g : Generator) (l P Q : ℕ) : Type 0 where

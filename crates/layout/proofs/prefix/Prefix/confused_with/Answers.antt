@@ -7,7 +7,7 @@ use Rattle.gf2.specs.declared.generator.Generator.{Generator}
 use Rattle.layout.specs.Addresses.{IsPrefix}
 use Rattle.layout.specs.Admission.{admitted, Confused, confusedWith}
 use Rattle.layout.specs.declared.prefix.Prefix.{Prefix}
-use Rattle.layout.proofs.Exactness.{told-apart, refused, confused, shifted}
+use Rattle.layout.proofs.Exactness.{told-apart, refused, confused, unseen-whole}
 use Rattle.layout.proofs.prefix.Prefix.confused_with.Needs as need
 use Rattle.layout.proofs.prefix.Prefix.confused_with.Needs.{then-tread-self·by·then-tread-self, then-tread-self·by·else-tread-self·then-admits}
 
@@ -23,28 +23,28 @@ returns-then-tread-self c lw Q q alike =
         told-apart (p .width .bits) (c .args .generator .now) (p .length) (c .args .tread) lw (p .within) (sym (w .if-admits .ensures tt .value)) (p .address) Q (is-prefix p) q alike
     ]
 
--- the address that the code makes, from P = g + 1 and the number of places that it is shifted by, is the confused one
-other : (p : Prefix) (g : Generator) (l x s : ℕ) → l ≤ p .length → false ≡ admitted (p .width .bits) g (p .length) l
-    → x ≡ bitXor (g .poly) 1 → s ≡ p .width .bits - p .length - g .lowest
-    → let Q = bitXor (p .address) (x * 2 ^ s % 2 ^ 128) in
-      (Q ≡ confusedWith (p .width .bits) g (p .length) (p .address)) × Confused (p .width .bits) g (p .length) l (p .address) Q
-other p g l x s lw no-way ex es =
+-- the address that the code makes is the confused one
+other : (p : Prefix) (g : Generator) (l x : ℕ) → l ≤ p .length → false ≡ admitted (p .width .bits) g (p .length) l
+    → x ≡ bitXor (g .poly) 1 * 2 ^ (p .width .bits - p .length - g .lowest) % 2 ^ 128
+    → (bitXor (p .address) x ≡ confusedWith (p .width .bits) g (p .length) (p .address))
+      × Confused (p .width .bits) g (p .length) l (p .address) (bitXor (p .address) x)
+other p g l x lw not-admitted ex =
     let W = p .width .bits in
-    let rule = refused W g (p .length) l lw (p .within) (sym no-way) in
-    let same : bitXor (p .address) (x * 2 ^ s % 2 ^ 128) ≡ confusedWith W g (p .length) (p .address) =
-      ap (bitXor (p .address)) (shifted W g (p .length) l lw (p .within) rule x s (p .width .most) ex es) in
+    let rule = refused W g (p .length) l lw (p .within) (sym not-admitted) in
+    let same : bitXor (p .address) x ≡ confusedWith W g (p .length) (p .address) =
+      ap (bitXor (p .address)) (ex ∙ unseen-whole W g (p .length) l lw (p .within) rule (p .width .most)) in
     (same,
       subst (Confused W g (p .length) l (p .address)) (sym same)
         (confused W g (p .length) l lw (p .within) rule (p .address) (is-prefix p)))
 
 pub ghost-result : need.ghost-result
 ghost-result c =
-    let made = other (c .args .self .now) (c .args .generator .now) (c .args .tread) (c .from .result) (c .saturating-sub .result)
-      (c .if-tread-self .left) (c .if-admits .ensures tt .value) (cc) (cc) .1 .prefix in
+    let made = other (c .args .self .now) (c .args .generator .now) (c .args .tread) (c .unseen .result)
+      (c .if-tread-self .left) (c .if-admits .ensures tt .value) (c .unseen .ensures) .1 .prefix in
     (made .within, (made .fits, (made .clear, tt)))
 
 pub returns : need.returns
 returns c =
-    let made = other (c .args .self .now) (c .args .generator .now) (c .args .tread) (c .from .result) (c .saturating-sub .result)
-      (c .if-tread-self .left) (c .if-admits .ensures tt .value) (cc) (cc) in
+    let made = other (c .args .self .now) (c .args .generator .now) (c .args .tread) (c .unseen .result)
+      (c .if-tread-self .left) (c .if-admits .ensures tt .value) (c .unseen .ensures) in
     (refl, refl, made .0, made .1)
