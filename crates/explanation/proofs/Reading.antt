@@ -53,13 +53,16 @@ module _ (line name rest : List ℕ) (layout : Layout) (cuts : cut (32 ∷ []) l
       u .unknown (placed .0) (subst (HasName (placed .0)) (ap (λ p. p .0) (sym same)) (placed .1))
 
   pub unread : readPrefix (layout .width .bits) rest ≡ None → Answers line (Err Unreadable)
-  unread none = (named-after-all, λ i P w s.
-      let same : _≡_ {A = List ℕ × List ℕ} (s .name, s .rest) (name, rest) = cc (s .cuts) in
-      let row : i ≡ placed .0 = same-row i (placed .0) name (subst (HasName i) (ap (λ p. p .0) same) (s .list)) (placed .1) in
-      let bits : getD rows i v4 .bits ≡ layout .width .bits = ap (λ n. getD rows n v4 .bits) row ∙ sym (placed .2 .width) in
-      let read : readPrefix (getD rows i v4 .bits) (s .rest) ≡ None = ap₂ readPrefix bits (ap (λ p. p .1) same) ∙ none in
-      let clash : _≡_ {A = ℕ} 0 1 = cc (s .prefix) in
-      absurd (omega arith))
+  unread none = (
+    named-after-all,
+    λ i P w s.
+        let same : _≡_ {A = List ℕ × List ℕ} (s .name, s .rest) (name, rest) = cc (s .cuts) in
+        let row : i ≡ placed .0 = same-row i (placed .0) name (subst (HasName i) (ap (λ p. p .0) same) (s .list)) (placed .1) in
+        let bits : getD rows i v4 .bits ≡ layout .width .bits = ap (λ n. getD rows n v4 .bits) row ∙ sym (placed .2 .width) in
+        let read : readPrefix (getD rows i v4 .bits) (s .rest) ≡ None = ap₂ readPrefix bits (ap (λ p. p .1) same) ∙ none in
+        let clash : _≡_ {A = ℕ} 0 1 = cc (s .prefix) in
+        absurd (omega arith),
+  )
 
   says : (P w : ℕ) → readPrefix (layout .width .bits) rest ≡ Some (P, w) → Says line (placed .0) P w
   says P w reads = record {

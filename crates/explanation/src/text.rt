@@ -43,7 +43,10 @@ pub impl fmt::Display for ConfusedText as ConfusedTextDisplay {
         match self.0 {
             Some(prefix) => {
                 let other = PrefixText(prefix);
-                write!(f, ", not admitted: {other} would leave the same digest there")
+                write!(
+                    f,
+                    ", not admitted: {other} would leave the same digest there"
+                )
             }
             None => Ok(()),
         }
@@ -58,7 +61,10 @@ pub impl fmt::Display for Place as PlaceDisplay {
         let bucket = HexText(self.bucket as u128);
         let digest = HexText(self.digest);
         let confused = ConfusedText(self.confused);
-        write!(f, "tread {tread}: bucket 0x{bucket}, digest 0x{digest}{confused}")
+        write!(
+            f,
+            "tread {tread}: bucket 0x{bucket}, digest 0x{digest}{confused}"
+        )
     }
 }
 
@@ -74,7 +80,8 @@ fn fault_text(fault: LineFault) -> &'static str
     ensures { λ r. ⌜ now r ≡ faultText fault ⌝ }
 {
     match fault {
-        LineFault::Unreadable => "cannot read this: a line is LIST ADDRESS/LENGTH, as v4 10.0.0.0/24 or v6 2001:db8::/32",
+        LineFault::Unreadable =>
+            "cannot read this: a line is LIST ADDRESS/LENGTH, as v4 10.0.0.0/24 or v6 2001:db8::/32",
         LineFault::UnknownList => "unknown list: there are v4, v4-small and v6",
         LineFault::LengthBeyondWidth => "the length is beyond the width of the address",
         LineFault::BitsAfterLength => "the address has bits after the length",

@@ -55,7 +55,7 @@ xor-zero a b e = sym (xor-zero-r a) ∙ ap (bitXor a) (sym e) ∙ xor-cancel a b
 pub xor-cross : (a r b s : ℕ) → bitXor a r ≡ bitXor b s → bitXor a b ≡ bitXor r s
 xor-cross a r b s e =
     xor-zero (bitXor a b) (bitXor r s)
-      (sym (xor-swap a r b s) ∙ ap (λ x. bitXor x (bitXor b s)) e ∙ xor-self (bitXor b s))
+    (sym (xor-swap a r b s) ∙ ap (λ x. bitXor x (bitXor b s)) e ∙ xor-self (bitXor b s))
 
 pub xor-shl : (k a b : ℕ) → bitXor a b * 2 ^ k ≡ bitXor (a * 2 ^ k) (b * 2 ^ k)
 xor-shl k a b =
@@ -65,10 +65,11 @@ xor-shl k a b =
 
 -- a coefficient is 0 or 1
 pub bit-cases : (n : ℕ) → (n % 2 ≡ 0) ⊎ (n % 2 ≡ 1)
-bit-cases n = go (n % 2) (mod-lt n (le-refl-2)) 
+bit-cases n = go (n % 2) (mod-lt n (le-refl-2))
   where
     le-refl-2 : 0 < 2
     le-refl-2 = omega arith
+
     go : (m : ℕ) → m < 2 → (m ≡ 0) ⊎ (m ≡ 1)
     go zero h = inl refl
     go (suc zero) h = inr refl

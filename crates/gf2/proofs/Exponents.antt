@@ -58,6 +58,7 @@ trailing (suc k) m h l = ⊎-elim (even (trailing k (m / 2))) odd (bit-cases m)
         let r = half (omega arith) (omega (arith, pow-suc 2 k)) in
         let t = trailingZeros k (m / 2) in
         rw e (record { below = mod-suc m t ∙ omega (arith, r .below); at = ap (λ x. x % 2) (shr-suc m t) ∙ r .at })
+
     odd : m % 2 ≡ 1 → Lowest m (under (m % 2) (trailingZeros k (m / 2)))
     odd e = rw e (record { below = mod-one m; at = ap (λ x. x % 2) (div-one m) ∙ e })
 
@@ -77,6 +78,7 @@ low n (suc t) odd r = record {
   where
     parts : n ≡ (n - 1) / 2 ^ suc t * 2 ^ suc t + 1
     parts = omega (arith, split (n - 1) (suc t), r .below)
+
     one : 1 < 2 ^ suc t
     one = omega (arith, pow-mono {i = 1} {j = suc t} (omega arith))
 
@@ -86,14 +88,14 @@ lowest n h = low n (trailingZeros 32 (n - 1)) (h .odd) (trailing 32 (n - 1) (ome
 -- no exponent is above the degree
 pub ordered : (n d t : ℕ) → Degree n d → n / 2 ^ t % 2 ≡ 1 → t ≤ d
 ordered n d t lead set = elim (decLe t d) [
-    yes h ↦ h
+  | yes h ↦ h
   | no above ↦
       let sum : d + (t - d) ≡ t = omega arith in
       let none : n / 2 ^ t ≡ 0 =
-        ap (λ m. n / 2 ^ m) (sym sum) ∙ sym (shr-shr n d (t - d)) ∙ ap (λ x. x / 2 ^ (t - d)) lead
-        ∙ div-eq-of-lt (omega (arith, pow-mono {i = 1} {j = t - d} (omega arith))) in
+      ap (λ m. n / 2 ^ m) (sym sum) ∙ sym (shr-shr n d (t - d)) ∙ ap (λ x. x / 2 ^ (t - d)) lead
+      ∙ div-eq-of-lt (omega (arith, pow-mono {i = 1} {j = t - d} (omega arith))) in
       absurd (omega (arith, none, set))
-  ]
+]
 
 -- what follows of any generator
 
@@ -131,11 +133,11 @@ lowest-not-lt p t s set clear pos lt =
     let j = s - t in
     let sum : j + t ≡ s = omega arith in
     let low : p / 2 ^ t % 2 ^ j ≡ 0 =
-      sym (field p j t) ∙ ap (λ m. p % 2 ^ m / 2 ^ t) sum ∙ ap (λ x. x / 2 ^ t) clear
-      ∙ div-eq-of-lt (omega (arith, pow-mono {i = 1} {j = t} pos)) in
+    sym (field p j t) ∙ ap (λ m. p % 2 ^ m / 2 ^ t) sum ∙ ap (λ x. x / 2 ^ t) clear
+    ∙ div-eq-of-lt (omega (arith, pow-mono {i = 1} {j = t} pos)) in
     let split-j : (j - 1) + 1 ≡ j = omega arith in
     let bit : p / 2 ^ t % 2 ≡ 0 =
-      sym (mod-mod-pow (p / 2 ^ t) (j - 1) 1) ∙ ap (λ m. p / 2 ^ t % 2 ^ m % 2) split-j ∙ ap (λ x. x % 2) low in
+    sym (mod-mod-pow (p / 2 ^ t) (j - 1) 1) ∙ ap (λ m. p / 2 ^ t % 2 ^ m % 2) split-j ∙ ap (λ x. x % 2) low in
     omega arith
 
 pub same-degree : (g h : Generator) → g .poly ≡ h .poly → g .degree ≡ h .degree

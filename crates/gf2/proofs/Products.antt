@@ -43,10 +43,10 @@ pub times-sum : (a b g : ℕ) → times (bitXor a b) g ≡ bitXor (times a g) (t
 times-sum a b g = bin-ind (λ n. (m : ℕ) → times (bitXor n m) g ≡ bitXor (times n g) (times m g))
     (λ m. sym (ap (λ x. bitXor x (times m g)) (times-zero g)))
     (λ n ih m. times-step (bitXor n m) g
-      ∙ ap₂ bitXor (sum-coefficient n m g)
-          (ap (λ x. times x g * 2) (xor-shr n m 1) ∙ ap (λ x. x * 2) (ih (m / 2)) ∙ xor-shl 1 (times (n / 2) g) (times (m / 2) g))
-      ∙ xor-swap (n % 2 * g) (m % 2 * g) (times (n / 2) g * 2) (times (m / 2) g * 2)
-      ∙ sym (ap₂ bitXor (times-step n g) (times-step m g)))
+    ∙ ap₂ bitXor (sum-coefficient n m g)
+    (ap (λ x. times x g * 2) (xor-shr n m 1) ∙ ap (λ x. x * 2) (ih (m / 2)) ∙ xor-shl 1 (times (n / 2) g) (times (m / 2) g))
+    ∙ xor-swap (n % 2 * g) (m % 2 * g) (times (n / 2) g * 2) (times (m / 2) g * 2)
+    ∙ sym (ap₂ bitXor (times-step n g) (times-step m g)))
     a b
 
 -- and in the second factor
@@ -54,29 +54,29 @@ pub times-sum-right : (q a b : ℕ) → times q (bitXor a b) ≡ bitXor (times q
 times-sum-right q a b = bin-ind (λ n. times n (bitXor a b) ≡ bitXor (times n a) (times n b))
     (times-zero (bitXor a b) ∙ sym (ap₂ bitXor (times-zero a) (times-zero b)))
     (λ n ih. times-step n (bitXor a b)
-      ∙ ap₂ bitXor (coefficient-sum n a b) (ap (λ x. x * 2) ih ∙ xor-shl 1 (times (n / 2) a) (times (n / 2) b))
-      ∙ xor-swap (n % 2 * a) (n % 2 * b) (times (n / 2) a * 2) (times (n / 2) b * 2)
-      ∙ sym (ap₂ bitXor (times-step n a) (times-step n b)))
+    ∙ ap₂ bitXor (coefficient-sum n a b) (ap (λ x. x * 2) ih ∙ xor-shl 1 (times (n / 2) a) (times (n / 2) b))
+    ∙ xor-swap (n % 2 * a) (n % 2 * b) (times (n / 2) a * 2) (times (n / 2) b * 2)
+    ∙ sym (ap₂ bitXor (times-step n a) (times-step n b)))
     q
 
 -- times 1, and times x^k
 pub times-by-one : (q : ℕ) → times q 1 ≡ q
 times-by-one q = bin-ind (λ n. times n 1 ≡ n) (times-zero 1) (λ n ih. times-step n 1
-      ∙ ap₂ bitXor (mul-one (n % 2)) (ap (λ x. x * 2) ih)
-      ∙ xor-comm (n % 2) (n / 2 * 2)
-      ∙ xor-shifted (n / 2) 1 (n % 2) (omega arith)
-      ∙ div-add-mod' n 2)
+    ∙ ap₂ bitXor (mul-one (n % 2)) (ap (λ x. x * 2) ih)
+    ∙ xor-comm (n % 2) (n / 2 * 2)
+    ∙ xor-shifted (n / 2) 1 (n % 2) (omega arith)
+    ∙ div-add-mod' n 2)
     q
 
 pub times-shl : (k q g : ℕ) → times q (g * 2 ^ k) ≡ times q g * 2 ^ k
 times-shl k q g = bin-ind (λ n. times n (g * 2 ^ k) ≡ times n g * 2 ^ k)
     (times-zero (g * 2 ^ k) ∙ sym (ap (λ x. x * 2 ^ k) (times-zero g) ∙ zero-mul (2 ^ k)))
     (λ n ih. times-step n (g * 2 ^ k)
-      ∙ ap₂ bitXor (sym (mul-assoc (n % 2) g (2 ^ k)))
-          (ap (λ x. x * 2) ih ∙ mul-assoc (times (n / 2) g) (2 ^ k) 2
-            ∙ ap (λ x. times (n / 2) g * x) (mul-comm (2 ^ k) 2) ∙ sym (mul-assoc (times (n / 2) g) 2 (2 ^ k)))
-      ∙ sym (xor-shl k (n % 2 * g) (times (n / 2) g * 2))
-      ∙ ap (λ x. x * 2 ^ k) (sym (times-step n g)))
+    ∙ ap₂ bitXor (sym (mul-assoc (n % 2) g (2 ^ k)))
+    (ap (λ x. x * 2) ih ∙ mul-assoc (times (n / 2) g) (2 ^ k) 2
+    ∙ ap (λ x. times (n / 2) g * x) (mul-comm (2 ^ k) 2) ∙ sym (mul-assoc (times (n / 2) g) 2 (2 ^ k)))
+    ∙ sym (xor-shl k (n % 2 * g) (times (n / 2) g * 2))
+    ∙ ap (λ x. x * 2 ^ k) (sym (times-step n g)))
     q
 
 times-double : (q g : ℕ) → times (q * 2) g ≡ times q g * 2
@@ -140,11 +140,11 @@ degree-times zero d q g hq hg =
     ap₂ (λ x y. x / 2 ^ y) (ap (λ x. times x g) one ∙ times-one g) (zero-add d) ∙ hg
 degree-times (suc n) d q g hq hg =
     let low : q % 2 * g / 2 ^ (suc n + d) ≡ 0 =
-      div-eq-of-lt (omega (arith, degree-lt g d hg, coefficient-le q g, pow-mono {i = suc d} {j = suc n + d} (omega arith))) in
+    div-eq-of-lt (omega (arith, degree-lt g d hg, coefficient-le q g, pow-mono {i = suc d} {j = suc n + d} (omega arith))) in
     let rest : times (q / 2) g * 2 / 2 ^ (suc n + d) ≡ 1 =
-      ap (λ m. times (q / 2) g * 2 / 2 ^ m) (suc-add n d) ∙ shr-suc (times (q / 2) g * 2) (n + d)
-      ∙ ap (λ x. x / 2 ^ (n + d)) (double-half (times (q / 2) g))
-      ∙ degree-times n d (q / 2) g (sym (shr-suc q n) ∙ hq) hg in
+    ap (λ m. times (q / 2) g * 2 / 2 ^ m) (suc-add n d) ∙ shr-suc (times (q / 2) g * 2) (n + d)
+    ∙ ap (λ x. x / 2 ^ (n + d)) (double-half (times (q / 2) g))
+    ∙ degree-times n d (q / 2) g (sym (shr-suc q n) ∙ hq) hg in
     ap (λ x. x / 2 ^ (suc n + d)) (times-step q g) ∙ xor-shr (q % 2 * g) (times (q / 2) g * 2) (suc n + d) ∙ ap₂ bitXor low rest
 
 -- the constant term of q · g is that of q where g has constant term 1

@@ -31,13 +31,13 @@ pub remainder-step : (g : Generator) (p : ℕ) → remainderOf g p ≡ bitXor (b
 unfolding remainderOf
 remainder-step g p =
     byBits-step 0 (λ n rest. let x = rest * 2 + n % 2 in bitXor x (x / 2 ^ g .degree * g .poly))
-      (ap (λ x. x * g .poly) (zero-div (2 ^ g .degree)) ∙ zero-mul (g .poly)) p
+    (ap (λ x. x * g .poly) (zero-div (2 ^ g .degree)) ∙ zero-mul (g .poly)) p
 
 pub quotient-step : (g : Generator) (p : ℕ) → quotientOf g p ≡ quotientOf g (p / 2) * 2 + brought g p / 2 ^ g .degree
 unfolding quotientOf
 quotient-step g p =
     byBits-step 0 (λ n rest. rest * 2 + (remainderOf g (n / 2) * 2 + n % 2) / 2 ^ g .degree)
-      (ap (λ x. 0 + (x * 2 + 0) / 2 ^ g .degree) (remainder-zero g) ∙ ap (λ x. 0 + x) (zero-div (2 ^ g .degree))) p
+    (ap (λ x. 0 + (x * 2 + 0) / 2 ^ g .degree) (remainder-zero g) ∙ ap (λ x. 0 + x) (zero-div (2 ^ g .degree))) p
 
 times-digit : (q c g : ℕ) → c < 2 → times (q * 2 + c) g ≡ bitXor (c * g) (times q g * 2)
 times-digit q c g h =
@@ -48,15 +48,15 @@ times-digit q c g h =
 -- g is taken away where its degree is reached, and degree below it is left
 taken-lt : (d g x : ℕ) → Degree g d → x < 2 ^ suc d → bitXor x (x / 2 ^ d * g) < 2 ^ d
 taken-lt d g x lead h = elim (decLt x (2 ^ d)) [
-    yes low ↦
+  | yes low ↦
       let none : bitXor x (x / 2 ^ d * g) ≡ x = ap (λ c. bitXor x (c * g)) (div-eq-of-lt low) ∙ ap (bitXor x) (zero-mul g) ∙ xor-zero-r x in
       rw none low
   | no high ↦
       let top : x / 2 ^ d ≡ 1 = degree-by x d (omega arith) h in
       let gone : bitXor x (x / 2 ^ d * g) / 2 ^ d ≡ 0 =
-        ap (λ c. bitXor x (c * g) / 2 ^ d) top ∙ xor-shr x (1 * g) d ∙ ap₂ bitXor top (ap (λ y. y / 2 ^ d) (one-mul g) ∙ lead) in
+      ap (λ c. bitXor x (c * g) / 2 ^ d) top ∙ xor-shr x (1 * g) d ∙ ap₂ bitXor top (ap (λ y. y / 2 ^ d) (one-mul g) ∙ lead) in
       below-of-shr (bitXor x (x / 2 ^ d * g)) d gone
-  ]
+]
 
 -- one row of the division
 row : (g : Generator) (p q r : ℕ) → Divides g (p / 2) q r
@@ -65,10 +65,13 @@ row g p q r h = record { identity = identity; bound = taken-lt (g .degree) (g .p
   where
     next : ℕ
     next = r * 2 + p % 2
+
     next-lt : r * 2 + p % 2 < 2 ^ suc (g .degree)
     next-lt = omega (arith, pow-suc 2 (g .degree), h .bound)
+
     digit : (r * 2 + p % 2) / 2 ^ g .degree < 2
     digit = div-lt-iff-lt-mul (pow-pos (g .degree)) .1 (omega (arith, next-lt, pow-suc 2 (g .degree)))
+
     whole : bitXor (times q (g .poly) * 2) (r * 2 + p % 2) ≡ p
     whole =
         ap (bitXor (times q (g .poly) * 2)) (sym (xor-shifted r 1 (p % 2) (omega arith)))
@@ -76,16 +79,17 @@ row g p q r h = record { identity = identity; bound = taken-lt (g .degree) (g .p
         ∙ ap (λ x. bitXor x (p % 2)) (sym (xor-shl 1 (times q (g .poly)) r) ∙ ap (λ x. x * 2) (sym (h .identity)))
         ∙ xor-shifted (p / 2) 1 (p % 2) (omega arith)
         ∙ div-add-mod' p 2
+
     identity : p ≡ bitXor (times (q * 2 + (r * 2 + p % 2) / 2 ^ g .degree) (g .poly)) (bitXor (r * 2 + p % 2) ((r * 2 + p % 2) / 2 ^ g .degree * g .poly))
     identity =
         let c = (r * 2 + p % 2) / 2 ^ g .degree in
         let t = times q (g .poly) * 2 in
         let x = r * 2 + p % 2 in
         sym (
-          ap₂ bitXor (times-digit q c (g .poly) digit) (xor-comm x (c * g .poly))
-          ∙ xor-swap (c * g .poly) t (c * g .poly) x
-          ∙ ap (λ y. bitXor y (bitXor t x)) (xor-self (c * g .poly))
-          ∙ whole)
+        ap₂ bitXor (times-digit q c (g .poly) digit) (xor-comm x (c * g .poly))
+        ∙ xor-swap (c * g .poly) t (c * g .poly) x
+        ∙ ap (λ y. bitXor y (bitXor t x)) (xor-self (c * g .poly))
+        ∙ whole)
 
 pub divides : (g : Generator) (p : ℕ) → Divides g p (quotientOf g p) (remainderOf g p)
 divides g = bin-ind (λ p. Divides g p (quotientOf g p) (remainderOf g p)) (rw (quotient-zero g, remainder-zero g) (record { identity = sym (ap (λ x. bitXor x 0) (times-zero (g .poly))); bound = pow-pos (g .degree) }))
@@ -104,6 +108,7 @@ only g p q r h q′ r′ k = (same-q, xor-zero r′ r (sym sums ∙ ap (λ x. bi
   where
     sums : bitXor (times q′ (g .poly)) (times q (g .poly)) ≡ bitXor r′ r
     sums = xor-cross (times q′ (g .poly)) r′ (times q (g .poly)) r (sym (k .identity) ∙ h .identity)
+
     same-q : q′ ≡ q
     same-q = xor-zero q′ q (vanishes g (bitXor q′ q) (rw (times-sum q′ q (g .poly), sums) (xor-lt (g .degree) r′ r (k .bound) (h .bound))))
 

@@ -46,19 +46,27 @@ turn g p j q r d y h ed ey eq er = rw (ed, ey) (record {
   where
     q-half : q ≡ quotientOf g (p / 2 ^ j / 2)
     q-half = eq ∙ ap (quotientOf g) (shr-half p j)
+
     r-half : r ≡ remainderOf g (p / 2 ^ j / 2)
     r-half = er ∙ ap (remainderOf g) (shr-half p j)
+
     next : ℕ
     next = r * 2 + p / 2 ^ j % 2
+
     r-bound : r < 2 ^ g .degree
     r-bound = rw er (divides g (p / 2 ^ suc j) .bound)
+
     r-small : r < 2 ^ 16
     r-small = rw er (remainder-small g (p / 2 ^ suc j))
+
     digit : (r * 2 + p / 2 ^ j % 2) / 2 ^ g .degree < 2
     digit = div-lt-iff-lt-mul (pow-pos (g .degree)) .1 (omega (arith, r-bound))
+
     half-small : p / 2 ^ j / 2 < 2 ^ 127
     half-small = omega (arith, shr-le p j)
+
     q-small : q < 2 ^ 127
     q-small = rw q-half (quotient-lt g 127 (p / 2 ^ j / 2) (omega (arith, half-small, pow-mono {i = 127} {j = 127 + g .degree} (omega arith))))
+
     poly-small : g .poly < 2 ^ 17
     poly-small = omega (arith, degree-lt (g .poly) (g .degree) (g .leads), pow-mono {i = suc (g .degree)} {j = 17} (omega (arith, g .most)))

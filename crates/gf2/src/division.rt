@@ -41,6 +41,9 @@ impl Generator {
             quotient = quotient * 2 + digit as u128;
             remainder = next ^ (digit * poly);
         }
-        Division { quotient, remainder }
+        Division {
+            quotient,
+            remainder,
+        }
     }
 }

@@ -43,7 +43,7 @@ module _ (W : ℕ) (g : Generator) (w l : ℕ) (lw : l ≤ w) (wW : w ≤ W) whe
   allowed : admitted W g w l ≡ true → (W - l ≤ g .degree) ⊎ ((g .degree + g .lowest ≤ W - w) ⊎ (w - l ≤ g .degree - g .lowest))
   allowed e = ⊎-elim
       (λ f. ⊎-elim (λ k. inl (leb-true (W - l) (g .degree) k)) (λ k. inr (inl (leb-true (g .degree + g .lowest) (W - w) k)))
-        (or-cases (leb (W - l) (g .degree)) (leb (g .degree + g .lowest) (W - w)) f))
+      (or-cases (leb (W - l) (g .degree)) (leb (g .degree + g .lowest) (W - w)) f))
       (λ f. inr (inr (leb-true (w - l) (g .degree - g .lowest) f)))
       (or-cases (leb (W - l) (g .degree) || leb (g .degree + g .lowest) (W - w)) (leb (w - l) (g .degree - g .lowest)) (and-parts (leb l w) _ e .1))
 
@@ -65,17 +65,20 @@ module _ (W : ℕ) (g : Generator) (w l : ℕ) (lw : l ≤ w) (wW : w ≤ W) whe
   told-apart e P Q p q alike = xor-zero P Q (⊎-elim
       (λ h. near g E (W - l) s d h)
       (⊎-elim (λ h. short g E (W - w) d m h) (λ h. elim (decLe (W - l) (g .degree)) [
-          yes le ↦ near g E (W - l) s d le
+        | yes le ↦ near g E (W - l) s d le
         | no gt ↦ far g E (W - w) (W - l) s d m (omega arith) (omega arith) (omega arith)
-        ]))
+      ]))
       (allowed e))
     where
       E : ℕ
       E = bitXor P Q
+
       s : remainderOf g (rounded W l (bitXor P Q)) ≡ 0
       s = sum-colony P Q alike
+
       d : quotientOf g (bitXor P Q) ≡ remainderOf g (bitXor P Q)
       d = sum-digest P Q alike
+
       m : bitXor P Q % 2 ^ (W - w) ≡ 0
       m = multiple-sum (W - w) P Q (p .clear) (q .clear)
 
@@ -84,8 +87,11 @@ module _ (W : ℕ) (g : Generator) (w l : ℕ) (lw : l ≤ w) (wW : w ≤ W) whe
     unseen-small : bitXor (g .poly) 1 * 2 ^ (W - w - g .lowest) < 2 ^ (W - l)
     unseen-small =
         let k = W - w - g .lowest in
-        omega (arith, shl-lt (suc (g .degree)) k (degree-lt (bitXor (g .poly) 1) (g .degree) (plus-one-degree g)),
-          pow-mono {i = suc (g .degree) + k} {j = W - l} (omega (arith, rule .far, rule .apart, g .ordered)))
+        omega (
+          arith,
+          shl-lt (suc (g .degree)) k (degree-lt (bitXor (g .poly) 1) (g .degree) (plus-one-degree g)),
+          pow-mono {i = suc (g .degree) + k} {j = W - l} (omega (arith, rule .far, rule .apart, g .ordered)),
+        )
 
     unseen-multiple : bitXor (g .poly) 1 * 2 ^ (W - w - g .lowest) % 2 ^ (W - w) ≡ 0
     unseen-multiple =
@@ -132,20 +138,23 @@ module _ (W : ℕ) (g : Generator) (w l : ℕ) (lw : l ≤ w) (wW : w ≤ W) whe
       where
         C : ℕ
         C = bitXor (g .poly) 1 * 2 ^ (W - w - g .lowest)
+
         z : ℕ
         z = 2 ^ (W - w - g .lowest)
+
         same-colony : colony W g P l ≡ colony W g (bitXor P C) l
         same-colony = sym (
             ap (remainderOf g) (rounded-sum W l P C) ∙ additive g .remainders (rounded W l P) (rounded W l C)
             ∙ ap (bitXor (colony W g P l)) unseen-colony ∙ xor-zero-r (colony W g P l))
+
         same-sum : bitXor (quotientOf g P) (remainderOf g P) ≡ bitXor (quotientOf g (bitXor P C)) (remainderOf g (bitXor P C))
         same-sum =
             let row = pair g C z z unseen-pair in
             sym (
-              ap₂ bitXor (additive g .quotients P C ∙ ap (bitXor (quotientOf g P)) (row .0)) (additive g .remainders P C ∙ ap (bitXor (remainderOf g P)) (row .1))
-              ∙ xor-swap (quotientOf g P) z (remainderOf g P) z
-              ∙ ap (bitXor (bitXor (quotientOf g P) (remainderOf g P))) (xor-self z)
-              ∙ xor-zero-r (bitXor (quotientOf g P) (remainderOf g P)))
+            ap₂ bitXor (additive g .quotients P C ∙ ap (bitXor (quotientOf g P)) (row .0)) (additive g .remainders P C ∙ ap (bitXor (remainderOf g P)) (row .1))
+            ∙ xor-swap (quotientOf g P) z (remainderOf g P) z
+            ∙ ap (bitXor (bitXor (quotientOf g P) (remainderOf g P))) (xor-self z)
+            ∙ xor-zero-r (bitXor (quotientOf g P) (remainderOf g P)))
 
   pub exact : Exact W g w l
   exact = record {
@@ -163,5 +172,5 @@ digest-lt W g P l h p =
     let wide : W ≡ k + g .degree = omega arith in
     let low = pow-mono {i = g .degree} {j = k} (omega arith) in
     xor-lt k (bitXor (quotientOf g P) (remainderOf g P)) (colony W g P l)
-      (xor-lt k (quotientOf g P) (remainderOf g P) (quotient-lt g k P (subst (λ m. P < 2 ^ m) wide p)) (omega (arith, divides g P .bound)))
-      (omega (arith, divides g (rounded W l P) .bound))
+    (xor-lt k (quotientOf g P) (remainderOf g P) (quotient-lt g k P (subst (λ m. P < 2 ^ m) wide p)) (omega (arith, divides g P .bound)))
+    (omega (arith, divides g (rounded W l P) .bound))

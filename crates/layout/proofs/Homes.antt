@@ -56,10 +56,14 @@ pub best-new : (W : ℕ) (ts : List ℕ) (w n : ℕ) → Lawful W ts → n < len
 best-new W ts w n h l le = (l, le, λ k k< _. rising-le W ts h k n (omega arith) l)
 
 pub best-kept : (ts : List ℕ) (w n j : ℕ) → Best ts w n j → w < getD ts n 0 → Best ts w (n + 1) j
-best-kept ts w n j best gt = (best .0, best .1, λ k k< le. elim (decLt k n) [
-    yes l ↦ best .2 k l le
-  | no m ↦ let same : k ≡ n = omega arith in absurd (omega (arith, ap (λ x. getD ts x 0) same))
-  ])
+best-kept ts w n j best gt = (
+  best .0,
+  best .1,
+  λ k k< le. elim (decLt k n) [
+    | yes l ↦ best .2 k l le
+    | no m ↦ let same : k ≡ n = omega arith in absurd (omega (arith, ap (λ x. getD ts x 0) same))
+  ],
+)
 
 pub best-all : (ts : List ℕ) (w n j : ℕ) → Best ts w n j → length ts ≤ n → getD ts j 0 ≡ homeTread ts w
 best-all ts w n j best le = home-is ts w j (best .0) (best .1) (λ k k<. best .2 k (omega arith))

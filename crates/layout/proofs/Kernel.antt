@@ -31,15 +31,16 @@ module _ (g : Generator) where
   -- it has the factor x^lowest, so a power of x that divides it divides q but for x^lowest
   factor : (E a : ℕ) → quotientOf g E ≡ remainderOf g E → E % 2 ^ a ≡ 0 → quotientOf g E % 2 ^ (a - g .lowest) ≡ 0
   factor E a e h = elim (decLe a (g .lowest)) [
-      yes le ↦ let none : a - g .lowest ≡ 0 = omega arith in ap (λ m. quotientOf g E % 2 ^ m) none ∙ mod-one (quotientOf g E)
+    | yes le ↦ let none : a - g .lowest ≡ 0 = omega arith in ap (λ m. quotientOf g E % 2 ^ m) none ∙ mod-one (quotientOf g E)
     | no more ↦ divides-out (a - g .lowest) (quotientOf g E) (g .poly / 2 ^ g .lowest) (g .present) (halves (omega arith))
-    ]
+  ]
     where
       product : E / 2 ^ g .lowest ≡ times (quotientOf g E) (g .poly / 2 ^ g .lowest)
       product =
           let q = quotientOf g E in
           let h = g .poly / 2 ^ g .lowest in
           ap (λ x. x / 2 ^ g .lowest) (doubled E e ∙ ap (times q) (plus-one g) ∙ times-shl (g .lowest) q h) ∙ shl-shr (times q h) (g .lowest)
+
       halves : g .lowest < a → times (quotientOf g E) (g .poly / 2 ^ g .lowest) % 2 ^ (a - g .lowest) ≡ 0
       halves more =
           let t = g .lowest in
@@ -75,7 +76,7 @@ module _ (g : Generator) where
         bound = omega (arith, low, pow-mono {i = b} {j = g .degree} h);
       }) in
       vanishes E e (multiple-below b (quotientOf g E)
-        (ap (λ x. x % 2 ^ b) (row .0) ∙ upper-multiple E b s) (rw (e, row .1) low))
+      (ap (λ x. x % 2 ^ b) (row .0) ∙ upper-multiple E b s) (rw (e, row .1) low))
 
   -- the tread is farther away, and nothing stands above it
   above : (E b : ℕ) → remainderOf g (E / 2 ^ b * 2 ^ b) ≡ 0 → quotientOf g E ≡ remainderOf g E → g .degree < b → E < 2 ^ b
@@ -87,9 +88,9 @@ module _ (g : Generator) where
       let rest : quotientOf g L < 2 ^ b = omega (arith, quotient-lt g (b - g .degree) L wide, pow-mono {i = b - g .degree} {j = b} (omega arith)) in
       let all : quotientOf g E < 2 ^ b = omega (arith, quotient-small E e, pow-mono {i = g .degree} {j = b} (omega arith)) in
       let sum : bitXor (quotientOf g L) (quotientOf g E) ≡ quotientOf g R =
-        ap (λ x. bitXor (quotientOf g L) (quotientOf g x)) (parts E b s)
-        ∙ ap (bitXor (quotientOf g L)) (additive g .quotients R L ∙ xor-comm (quotientOf g R) (quotientOf g L))
-        ∙ xor-cancel (quotientOf g L) (quotientOf g R) in
+      ap (λ x. bitXor (quotientOf g L) (quotientOf g x)) (parts E b s)
+      ∙ ap (bitXor (quotientOf g L)) (additive g .quotients R L ∙ xor-comm (quotientOf g R) (quotientOf g L))
+      ∙ xor-cancel (quotientOf g L) (quotientOf g R) in
       let none : quotientOf g R ≡ 0 = multiple-below b (quotientOf g R) (upper-multiple E b s) (rw sum at (xor-lt b (quotientOf g L) (quotientOf g E) rest all)) in
       let empty : R ≡ 0 = upper E b s ∙ ap (λ q. times q (g .poly)) none ∙ times-zero (g .poly) in
       omega (arith, split E b, empty, low)
@@ -103,19 +104,19 @@ module _ (g : Generator) where
       go (suc q) z =
           let n = has-degree (quotientOf g E) (omega arith) in
           let degree : Degree E (n .0 + g .degree) =
-            ap (λ x. x / 2 ^ (n .0 + g .degree)) (doubled E e)
-            ∙ degree-times (n .0) (g .degree) (quotientOf g E) (bitXor (g .poly) 1) (n .1) (plus-one-degree g) in
+          ap (λ x. x / 2 ^ (n .0 + g .degree)) (doubled E e)
+          ∙ degree-times (n .0) (g .degree) (quotientOf g E) (bitXor (g .poly) 1) (n .1) (plus-one-degree g) in
           let top : n .0 + g .degree < b = pow-below (n .0 + g .degree) b (omega (arith, degree-ge E (n .0 + g .degree) degree, above E b s e h)) in
           let bottom : a - g .lowest < suc (n .0) = pow-below (a - g .lowest) (suc (n .0)) (omega (arith, degree-lt (quotientOf g E) (n .0) (n .1), least (omega arith))) in
           absurd (omega (arith, g .ordered))
         where
           least : 0 < quotientOf g E → 2 ^ (a - g .lowest) ≤ quotientOf g E
           least pos = elim (decLe (2 ^ (a - g .lowest)) (quotientOf g E)) [
-              yes l ↦ l
+            | yes l ↦ l
             | no n ↦ absurd (omega (arith, multiple-below (a - g .lowest) (quotientOf g E) (factor E a e m) (omega arith)))
-            ]
+          ]
 
   pub short : (E a : ℕ) → quotientOf g E ≡ remainderOf g E → E % 2 ^ a ≡ 0 → g .degree + g .lowest ≤ a → E ≡ 0
   short E a e m h =
       vanishes E e (multiple-below (a - g .lowest) (quotientOf g E) (factor E a e m)
-        (omega (arith, quotient-small E e, pow-mono {i = g .degree} {j = a - g .lowest} (omega arith))))
+      (omega (arith, quotient-small E e, pow-mono {i = g .degree} {j = a - g .lowest} (omega arith))))

@@ -30,11 +30,15 @@ module _ (i : ℕ) (name : List ℕ) (has : HasName i name) (W : Width) (poly : 
   is-lawful = subst₂ Lawful (sym bits) (sym treads) (good i (has .0) .lawful)
 
   passes : (r : Result Layout LayoutRefusal) → Verdict W poly ts r → Answer name (okPart r)
-  passes (Ok layout) v = (i, has, record {
-    width = ap (λ x. x .bits) (v .width) ∙ bits;
-    generator = v .generator ∙ generator;
-    treads = v .treads ∙ treads;
-  })
+  passes (Ok layout) v = (
+    i,
+    has,
+    record {
+      width = ap (λ x. x .bits) (v .width) ∙ bits;
+      generator = v .generator ∙ generator;
+      treads = v .treads ∙ treads;
+    },
+  )
   passes (Err NotAGenerator) v =
       let g = good i (has .0) in
       absurd (v (subst IsGenerator (g .poly-is ∙ sym generator) (is-generator (g .generator))))
@@ -43,7 +47,7 @@ module _ (i : ℕ) (name : List ℕ) (has : HasName i name) (W : Width) (poly : 
       let row = good i (has .0) in
       let same = settled-same (W .bits) (v .generator) (row .generator) (v .poly-is ∙ generator ∙ sym (row .poly-is)) ts w in
       let home : settled (W .bits) (row .generator) ts w ≡ true =
-        subst₂ (λ b l. settled b (row .generator) l w ≡ true) (sym bits) (sym treads) (row .admits w (subst (λ b. w ≤ b) bits (v .first .within))) in
+      subst₂ (λ b l. settled b (row .generator) l w ≡ true) (sym bits) (sym treads) (row .admits w (subst (λ b. w ≤ b) bits (v .first .within))) in
       let clash : _≡_ {A = ℕ} 0 1 = cc (v .first .unsettled) in
       absurd (omega arith)
 

@@ -25,9 +25,9 @@ below (suc n) f = f n && below n f
 below-each : (n : ℕ) (f : ℕ → Bool) → below n f ≡ true → (k : ℕ) → k < n → f k ≡ true
 below-each zero f h k l = absurd (omega arith)
 below-each (suc n) f h k l = elim (decLt k n) [
-    yes m ↦ below-each n f (and-parts (f n) (below n f) h .1) k m
+  | yes m ↦ below-each n f (and-parts (f n) (below n f) h .1) k m
   | no m ↦ let same : k ≡ n = omega arith in ap f same ∙ and-parts (f n) (below n f) h .0
-  ]
+]
 
 -- a list that passes the tests is a tread list
 pub lawful : (W : ℕ) (ts : List ℕ) (n : ℕ) → length ts ≡ suc n → suc n ≤ 40 → getD ts 0 0 ≡ 0

@@ -12,15 +12,31 @@ use Rattle.layout.specs.Treads.{Lawful, AllSettled, FirstUnsettled}
 -- x^16 + x^12 + x^3 + x^2 + 1, of the lists v4 and v6
 abbrev pub g1100D : Generator
 g1100D = record {
-  poly = 0x1100D; degree = 16; lowest = 2;
-  leads = refl; least = lit≤ tt; most = lit≤ tt; positive = lit< tt; ordered = lit≤ tt; apart = refl; present = refl;
+  poly = 0x1100D;
+  degree = 16;
+  lowest = 2;
+  leads = refl;
+  least = lit≤ tt;
+  most = lit≤ tt;
+  positive = lit< tt;
+  ordered = lit≤ tt;
+  apart = refl;
+  present = refl;
 }
 
 -- x^8 + x^4 + x^3 + x^2 + 1, of the list v4-small
 abbrev pub g11D : Generator
 g11D = record {
-  poly = 0x11D; degree = 8; lowest = 2;
-  leads = refl; least = lit≤ tt; most = lit≤ tt; positive = lit< tt; ordered = lit≤ tt; apart = refl; present = refl;
+  poly = 0x11D;
+  degree = 8;
+  lowest = 2;
+  leads = refl;
+  least = lit≤ tt;
+  most = lit≤ tt;
+  positive = lit< tt;
+  ordered = lit≤ tt;
+  apart = refl;
+  present = refl;
 }
 
 -- the address a divided by g1100D

@@ -14,6 +14,7 @@ pub struct Width {
 
 impl Width {
     pub const IPV4: Width = Width { bits: 32 };
+
     pub const IPV6: Width = Width { bits: 128 };
 
     // The width of that many bits, or `None` where there is none.

@@ -15,7 +15,11 @@ impl Generator {
         }
         let degree = 31 - poly.leading_zeros();
         let lowest = (poly - 1).trailing_zeros();
-        Some(Generator { poly, degree, lowest })
+        Some(Generator {
+            poly,
+            degree,
+            lowest,
+        })
     }
 
     pub fn poly(&self) -> u32

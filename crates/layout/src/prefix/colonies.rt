@@ -13,7 +13,9 @@ impl Prefix {
     pub fn colony(&self, generator: &Generator, tread: u8) -> u32
         ensures { λ r. ⌜ r ≡ colony (now (self .entry) .width .bits) (now (generator .entry)) (now (self .entry) .address) tread ⌝ }
     {
-        generator.divide(self.width.round(self.address, tread)).remainder
+        generator
+            .divide(self.width.round(self.address, tread))
+            .remainder
     }
 
     // What its entry holds there.

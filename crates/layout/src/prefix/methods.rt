@@ -23,7 +23,11 @@ impl Prefix {
         if width.round(address, length) != address {
             return Err(PrefixFault::BitsAfterLength);
         }
-        Ok(Prefix { width, address, length })
+        Ok(Prefix {
+            width,
+            address,
+            length,
+        })
     }
 
     pub fn width(&self) -> Width

@@ -23,7 +23,7 @@ loop-place-again c =
     ∙ ap₂ (λ a b. a ++ b) (c .loop-place .inv) line
     ∙ joined-more placeLine head (take i items) place
     ∙ ap (λ xs. head ++ joined placeLine xs)
-        (ap (λ x. take i items ++ (x ∷ [])) (c .place-item .is) ∙ sym (take-more items i place (c .loop-place-test .taken)))
+    (ap (λ x. take i items ++ (x ∷ [])) (c .place-item .is) ∙ sym (take-more items i place (c .loop-place-test .taken)))
 
 pub returns : need.returns
 returns c =

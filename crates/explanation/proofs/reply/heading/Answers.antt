@@ -10,5 +10,5 @@ pub returns : need.returns
 returns c =
     let q = c .args .query .now in
     made-weaker (c .format .result) _ _
-      (λ s e. e ∙ ap (λ n. prefixText (q .prefix) ++ (codes ", generator 0x" ++ (hex n ++ (10 ∷ [])))) (c .poly .ensures ∙ ap (λ g. g .poly) (c .generator .ensures)))
-      (c .format .ensures .made)
+    (λ s e. e ∙ ap (λ n. prefixText (q .prefix) ++ (codes ", generator 0x" ++ (hex n ++ (10 ∷ [])))) (c .poly .ensures ∙ ap (λ g. g .poly) (c .generator .ensures)))
+    (c .format .ensures .made)

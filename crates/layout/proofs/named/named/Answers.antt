@@ -6,5 +6,5 @@ pub returns : need.returns
 returns c =
     let row = c .row-row .ensures in
     answer (c .in-Continue-row-number .field-0) (c .args .name .now) (c .in-Continue-row-number .ensures tt) (c .in-Continue-new .field-0)
-      (c .row-row .result .generator) (c .row-row .result .treads .now)
-      (c .in-Continue-new .ensures tt ∙ row .bits) (row .generator) (row .treads) (c .check .result) (c .ok .result) (c .ok .ensures .value) (c .check .ensures)
+    (c .row-row .result .generator) (c .row-row .result .treads .now)
+    (c .in-Continue-new .ensures tt ∙ row .bits) (row .generator) (row .treads) (c .check .result) (c .ok .result) (c .ok .ensures .value) (c .check .ensures)

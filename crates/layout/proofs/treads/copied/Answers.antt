@@ -13,9 +13,10 @@ loop-i-again c =
     let ts = c .args .treads .now in
     let i = c .loop-i .i in
     let inv = c .loop-i .inv in
-    let room : i < length xs = omega arith in
-    (length-set xs i (getD ts i 0) ∙ inv .0,
-      take-more-set xs i (getD ts i 0) room ∙ ap (λ l. l ++ (getD ts i 0 ∷ [])) (inv .1) ∙ sym (take-more ts i 0 (c .loop-i-test .taken)))
+    let room : i < length xs = omega arith in (
+      length-set xs i (getD ts i 0) ∙ inv .0,
+      take-more-set xs i (getD ts i 0) room ∙ ap (λ l. l ++ (getD ts i 0 ∷ [])) (inv .1) ∙ sym (take-more ts i 0 (c .loop-i-test .taken)),
+    )
 
 pub returns : need.returns
 returns c =

@@ -9,11 +9,11 @@ loop-number-again c =
     let ts = c .args .treads .now in
     let n = c .loop-number .number in
     elim (c .if-tread-length .came) [
-      then-tread-length w ↦
-        subst (Best ts (c .args .length) (n + 1)) (sym (w .home-is))
+      | then-tread-length w ↦
+          subst (Best ts (c .args .length) (n + 1)) (sym (w .home-is))
           (best-new (c .args .bits) ts (c .args .length) n (c .pre) (c .loop-number-test .taken) (w .if-tread-length .taken))
-    | else-tread-length w ↦
-        subst (Best ts (c .args .length) (n + 1)) (sym (w .home-is))
+      | else-tread-length w ↦
+          subst (Best ts (c .args .length) (n + 1)) (sym (w .home-is))
           (best-kept ts (c .args .length) n (c .loop-number .home) (c .loop-number .inv) (w .if-tread-length .left))
     ]
 

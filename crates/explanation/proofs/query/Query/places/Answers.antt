@@ -18,15 +18,17 @@ loop-number-again c =
     let number = c .loop-number .number in
     let before = c .loop-number .places in
     let after = c .push .last .self in
-    let grown = c .in-Continue-push .ensures tt in
-    (omega (arith, grown .len), λ k none h. elim (decLt k (vec-len before)) [
-      yes l ↦ subst (PlaceOf q (getD ts (home - k) 0)) (sym (grown .places .0 k none l)) (c .loop-number .inv .1 k none l)
-    | no m ↦
-        let last : k ≡ vec-len before = omega (arith, grown .len) in
-        let at : number - 1 ≡ home - k = omega arith in
-        subst₂ (PlaceOf q) (ap (λ xs. getD xs (number - 1) 0) (c .treads .ensures) ∙ ap (λ n. getD ts n 0) at)
-          (sym (grown .places .1 none refl) ∙ ap (λ n. getD (vec-items after) n none) (sym last)) (c .place .ensures)
-    ])
+    let grown = c .in-Continue-push .ensures tt in (
+      omega (arith, grown .len),
+      λ k none h. elim (decLt k (vec-len before)) [
+        | yes l ↦ subst (PlaceOf q (getD ts (home - k) 0)) (sym (grown .places .0 k none l)) (c .loop-number .inv .1 k none l)
+        | no m ↦
+            let last : k ≡ vec-len before = omega (arith, grown .len) in
+            let at : number - 1 ≡ home - k = omega arith in
+            subst₂ (PlaceOf q) (ap (λ xs. getD xs (number - 1) 0) (c .treads .ensures) ∙ ap (λ n. getD ts n 0) at)
+            (sym (grown .places .1 none refl) ∙ ap (λ n. getD (vec-items after) n none) (sym last)) (c .place .ensures)
+      ],
+    )
 
 pub returns : need.returns
 returns c =

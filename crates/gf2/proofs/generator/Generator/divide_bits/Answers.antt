@@ -9,14 +9,14 @@ use Rattle.gf2.proofs.generator.Generator.divide_bits.Needs as need
 -- the turn at which the coefficient of x^(k - 1) is brought down
 here : (c : need.In-loop-k)
     → Turn (c .args .self .now) (c .args .dividend) (c .loop-k .k - 1) (c .loop-k .quotient)
-        (c .loop-k .remainder * 2 + c .args .dividend / 2 ^ (c .loop-k .k - 1) % 2) (c .degree-degree .result) (c .poly-poly .result)
+    (c .loop-k .remainder * 2 + c .args .dividend / 2 ^ (c .loop-k .k - 1) % 2) (c .degree-degree .result) (c .poly-poly .result)
 here c =
     let g = c .args .self .now in
     let p = c .args .dividend in
     let k : c .loop-k .k ≡ suc (c .loop-k .k - 1) = omega arith in
     turn g p (c .loop-k .k - 1) (c .loop-k .quotient) (c .loop-k .remainder) (c .degree-degree .result) (c .poly-poly .result)
-      (omega (arith, c .pre .within, pow-mono (c .pre .few))) (c .degree-degree .ensures) (c .poly-poly .ensures)
-      (c .loop-k .inv .0 ∙ ap (λ m. quotientOf g (p / 2 ^ m)) k) (c .loop-k .inv .1 ∙ ap (λ m. remainderOf g (p / 2 ^ m)) k)
+    (omega (arith, c .pre .within, pow-mono (c .pre .few))) (c .degree-degree .ensures) (c .poly-poly .ensures)
+    (c .loop-k .inv .0 ∙ ap (λ m. quotientOf g (p / 2 ^ m)) k) (c .loop-k .inv .1 ∙ ap (λ m. remainderOf g (p / 2 ^ m)) k)
 
 pub loop-k-holds : need.loop-k-holds
 loop-k-holds c = none-above (c .args .self .now) (c .args .dividend) (c .args .bits) (c .pre .within)

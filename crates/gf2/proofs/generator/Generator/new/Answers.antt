@@ -7,9 +7,9 @@ pub returns-then-poly-eq0 : need.returns-then-poly-eq0
 returns-then-poly-eq0 c g =
     let r = generator-range (c .args .poly) g in
     elim (c .then-poly-eq0 .came) [
-      then-poly-eq0·by·then-poly-eq0 w ↦ omega (arith, w .if-poly-eq0 .taken)
-    | then-poly-eq0·by·else-poly-eq0·then-poly w ↦ omega (arith, w .if-poly .taken)
-    | then-poly-eq0·by·else-poly-eq0·else-poly·then-poly-2 w ↦ omega (arith, w .if-poly-2 .taken)
+      | then-poly-eq0·by·then-poly-eq0 w ↦ omega (arith, w .if-poly-eq0 .taken)
+      | then-poly-eq0·by·else-poly-eq0·then-poly w ↦ omega (arith, w .if-poly .taken)
+      | then-poly-eq0·by·else-poly-eq0·else-poly·then-poly-2 w ↦ omega (arith, w .if-poly-2 .taken)
     ]
 
 pub ghost-result : need.ghost-result
