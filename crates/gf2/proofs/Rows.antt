@@ -23,26 +23,25 @@ none-above g p k h =
     let none : p / 2 ^ k ≡ 0 = div-eq-of-lt h in
     (sym (ap (quotientOf g) none ∙ quotient-zero g), sym (ap (remainderOf g) none ∙ remainder-zero g))
 
--- `next` is the remainder with the coefficient of x^j brought down; d and y are the degree and the number of g
-pub record Turn (g : Generator) (p j q next d y : ℕ) : Type 0 where
+-- `next` is the remainder with the coefficient of x^j brought down
+pub record Turn (g : Generator) (p j q next : ℕ) : Type 0 where
   pub next-small : next < 2 ^ 17
-  pub digit : next / 2 ^ d < 2
-  pub quotient-fits : q * 2 + next / 2 ^ d < 2 ^ 128
-  pub product-small : next / 2 ^ d * y < 2 ^ 18
-  pub quotient : q * 2 + next / 2 ^ d ≡ quotientOf g (p / 2 ^ j)
-  pub remainder : bitXor next (next / 2 ^ d * y) ≡ remainderOf g (p / 2 ^ j)
+  pub digit : next / 2 ^ g .degree < 2
+  pub quotient-fits : q * 2 + next / 2 ^ g .degree < 2 ^ 128
+  pub product-small : next / 2 ^ g .degree * g .poly < 2 ^ 18
+  pub quotient : q * 2 + next / 2 ^ g .degree ≡ quotientOf g (p / 2 ^ j)
+  pub remainder : bitXor next (next / 2 ^ g .degree * g .poly) ≡ remainderOf g (p / 2 ^ j)
 
-pub turn : (g : Generator) (p j q r d y : ℕ) → p < 2 ^ 128 → d ≡ g .degree → y ≡ g .poly
-    → q ≡ quotientOf g (p / 2 ^ suc j) → r ≡ remainderOf g (p / 2 ^ suc j)
-    → Turn g p j q (r * 2 + p / 2 ^ j % 2) d y
-turn g p j q r d y h ed ey eq er = rw (ed, ey) (record {
+turn-at : (g : Generator) (p j q r : ℕ) → p < 2 ^ 128 → q ≡ quotientOf g (p / 2 ^ suc j) → r ≡ remainderOf g (p / 2 ^ suc j)
+    → Turn g p j q (r * 2 + p / 2 ^ j % 2)
+turn-at g p j q r h eq er = record {
   next-small = omega (arith, r-small);
   digit = digit;
   quotient-fits = omega (arith, digit, q-small);
   product-small = omega (arith, mul-le-mul-right {m = next / 2 ^ g .degree} {n = 1} (g .poly) (omega (arith, digit)), poly-small);
   quotient = ap₂ (λ a b. a * 2 + (b * 2 + p / 2 ^ j % 2) / 2 ^ g .degree) q-half r-half ∙ sym (quotient-step g (p / 2 ^ j));
   remainder = ap (λ b. let x = b * 2 + p / 2 ^ j % 2 in bitXor x (x / 2 ^ g .degree * g .poly)) r-half ∙ sym (remainder-step g (p / 2 ^ j));
-})
+}
   where
     q-half : q ≡ quotientOf g (p / 2 ^ j / 2)
     q-half = eq ∙ ap (quotientOf g) (shr-half p j)
@@ -70,3 +69,10 @@ turn g p j q r d y h ed ey eq er = rw (ed, ey) (record {
 
     poly-small : g .poly < 2 ^ 17
     poly-small = omega (arith, degree-lt (g .poly) (g .degree) (g .leads), pow-mono {i = suc (g .degree)} {j = 17} (omega (arith, g .most)))
+
+-- from the coefficients above x^k, k above 0, to those from x^(k - 1) on
+pub turn : (g : Generator) (p bits k q r : ℕ) → p < 2 ^ bits → bits ≤ 128 → 0 < k
+    → (q ≡ quotientOf g (p / 2 ^ k)) × (r ≡ remainderOf g (p / 2 ^ k)) → Turn g p (k - 1) q (r * 2 + p / 2 ^ (k - 1) % 2)
+turn g p bits k q r h few pos inv =
+    let next : k ≡ suc (k - 1) = omega arith in
+    turn-at g p (k - 1) q r (omega (arith, pow-mono few)) (inv .0 ∙ ap (λ m. quotientOf g (p / 2 ^ m)) next) (inv .1 ∙ ap (λ m. remainderOf g (p / 2 ^ m)) next)

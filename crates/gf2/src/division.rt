@@ -1,6 +1,6 @@
 // Division of a polynomial by a generator.
 ghost use mathlib.Core.Path.{_≡_};
-ghost use Prim.Native.Nat.{_^_, _<_, _≤_};
+ghost use Prim.Native.Nat.{_/_, _^_, _<_, _≤_};
 ghost use Rattle.gf2.specs.Division.{Divides, OnlyPair, Additive, quotientOf, remainderOf};
 use crate::generator::Generator;
 
@@ -32,12 +32,11 @@ impl Generator {
         ensures remainder { λ r. ⌜ r .remainder ≡ remainderOf (now (self .entry)) dividend ⌝ }
     {
         let poly = self.poly();
-        let degree = self.degree();
         let mut quotient = 0u128;
         let mut remainder = 0u32;
         for k in (0..bits).rev() {
             let next = remainder * 2 + ((dividend >> k) % 2) as u32;
-            let digit = next >> degree;
+            let digit = self.goes_into(next);
             quotient = quotient * 2 + digit as u128;
             remainder = next ^ (digit * poly);
         }
@@ -45,5 +44,12 @@ impl Generator {
             quotient,
             remainder,
         }
+    }
+
+    // How often the generator goes into a remainder with one more coefficient brought down: 0 or 1 times.
+    fn goes_into(&self, next: u32) -> u32
+        ensures { λ r. ⌜ r ≡ next / 2 ^ now (self .entry) .degree ⌝ }
+    {
+        next >> self.degree()
     }
 }
