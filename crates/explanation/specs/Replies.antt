@@ -6,7 +6,7 @@ use lib.Chars.{codes}
 use Rattle.std.specs.declared.result.Result.{Result}
 use Rattle.std.specs.declared.result.Result.the-variants.{Ok, Err}
 use Rattle.std.specs.Joined.{joined}
-use Rattle.notation.specs.Ipv6Text.{hex}
+use Rattle.notation.specs.Hexadecimal.{hex}
 use Rattle.explanation.specs.Queries.{Answers}
 use Rattle.explanation.specs.Places.{PlacesOf}
 use Rattle.explanation.specs.Texts.{prefixText, placeText, faultText}

@@ -8,7 +8,8 @@ use Rattle.std.specs.declared.option.Option.{Option}
 use Rattle.std.specs.declared.option.Option.the-variants.{None, Some}
 use Rattle.std.specs.Written.{decimal}
 use Rattle.notation.specs.Ipv4.{dotted}
-use Rattle.notation.specs.Ipv6Text.{text6, hex}
+use Rattle.notation.specs.Hexadecimal.{hex}
+use Rattle.notation.specs.Ipv6Text.{text6}
 use Rattle.layout.specs.declared.prefix.Prefix.{Prefix}
 use Rattle.explanation.specs.declared.place.Place.{Place}
 use Rattle.explanation.specs.declared.query.LineFault.{LineFault}

@@ -8,16 +8,12 @@ use native.Mathlib.Omega.{arith}
 use lib.Dec.{ltb}
 use lib.ListN.{length, take, drop, replicate}
 use Rattle.std.proofs.shelf.Lists.{take-rest}
-use Rattle.std.proofs.shelf.Tests.{cond-true, cond-false, lt-ltb, le-ltb}
+use Rattle.std.proofs.shelf.Tests.{cond-false, le-ltb}
 use Rattle.std.specs.declared.option.Option.{Option}
 use Rattle.std.specs.declared.option.Option.the-variants.{None, Some}
 use Rattle.notation.specs.Cut.{cut}
 use Rattle.notation.specs.Groups.{colon}
 use Rattle.notation.specs.Ipv6Text.{colons, longestRun, sidesText, groupsText}
-
-pub text-plain : (gs : List ℕ) (len : ℕ) → len ≡ longestRun gs → len < 2 → colons gs ≡ groupsText gs
-text-plain gs len f h =
-    ap (sidesText gs) (sym (cond-true _ None (cut (replicate (longestRun gs) 0) gs) (lt-ltb (longestRun gs) 2 (omega arith))))
 
 pub text-short : (gs : List ℕ) (start len : ℕ) → len ≡ longestRun gs → 2 ≤ len → cut (replicate len 0) gs ≡ Some (take start gs, drop (start + len) gs) → colons (take (start - 0) gs) ++ (colon ∷ colon ∷ colons (take (length gs - (start + len)) (drop (start + len) gs))) ≡ groupsText gs
 text-short gs start len f h k =

@@ -64,6 +64,10 @@ abbrev pub Without : ℕ → List ℕ → Type 0
 Without m [] = Unit {0}
 Without m (c ∷ cs) = (c ≡ m → ⊥) × Without m cs
 
+pub without-append : (m : ℕ) (xs ys : List ℕ) → Without m xs → Without m ys → Without m (xs ++ ys)
+without-append m [] ys v w = w
+without-append m (x ∷ xs) ys v w = (v .0, without-append m xs ys (v .1) w)
+
 pub without-digits : (radix m : ℕ) (text : List ℕ) → radix ≤ digitValue m → Digits radix text → Without m text
 without-digits radix m [] h d = tt
 without-digits radix m (c ∷ cs) h d = ((λ e. omega (arith, d .0, ap digitValue e)), without-digits radix m cs h (d .1))

@@ -4,15 +4,17 @@ use mathlib.Core.List.{List, [], _∷_, _++_}
 use Prim.Native.Nat.{ℕ, _+_, _*_, _/_, _%_, _^_, _≤_, _<_}
 use native.Mathlib.Nat.{div-div-eq-div-mul}
 use native.Mathlib.Omega.{arith}
-use Rattle.std.proofs.shelf.Decimals.{decimal-reads}
+use lib.ListN.{length, length-append}
+use Rattle.std.proofs.shelf.Decimals.{decimal-reads, decimal-some}
 use Rattle.std.specs.declared.option.Option.{Option}
 use Rattle.std.specs.declared.option.Option.the-variants.{None, Some}
 use Rattle.std.specs.Options.{Cases, mapped}
+use Rattle.std.specs.Text.{digitValue}
 use Rattle.std.specs.Written.{decimal}
 use Rattle.notation.specs.Chain.{andThen}
 use Rattle.notation.specs.Cut.{cut}
 use Rattle.notation.specs.Ipv4.{dot, dotted, read4, readOctet, readOctetAndDot}
-use Rattle.notation.proofs.Cuts.{Without, without-digits, cut-first, cut-joins}
+use Rattle.notation.proofs.Cuts.{Without, without-append, without-digits, cut-first, cut-joins}
 use Rattle.notation.proofs.Decimals.{decimal-back, decimal-only}
 use Rattle.notation.proofs.Options.{andThen-some, mapped-some, some-inj, exactly}
 
@@ -50,7 +52,7 @@ octets-sum n h =
     (ap (λ q. q * 2 ^ 8 + n / 2 ^ 16 % 2 ^ 8) (sym (div-div-eq-div-mul n (2 ^ 16) (2 ^ 8))) ∙ low-octet (n / 2 ^ 16))
     (omega arith)
 
-dotted-back : (a : ℕ) (text : List ℕ) → a < 2 ^ 32 → dotted a ≡ text → read4 text ≡ Some a
+pub dotted-back : (a : ℕ) (text : List ℕ) → a < 2 ^ 32 → dotted a ≡ text → read4 text ≡ Some a
 dotted-back n text h e = subst (λ t. read4 t ≡ Some n) e
     (let a = n / 2 ^ 24 % 2 ^ 8 in let b = n / 2 ^ 16 % 2 ^ 8 in let c = n / 2 ^ 8 % 2 ^ 8 in let d = n % 2 ^ 8 in
     let t3 = decimal d in let t2 = decimal c ++ (dot ∷ t3) in let t1 = decimal b ++ (dot ∷ t2) in
@@ -60,7 +62,7 @@ dotted-back n text h e = subst (λ t. read4 t ≡ Some n) e
     ∙ ap (mapped (λ d. a * 2 ^ 24 + b * 2 ^ 16 + c * 2 ^ 8 + d)) (octet-back d (omega arith))
     ∙ ap Some (octets-sum n h))
 
-dotted-only : (n : ℕ) (text : List ℕ) → read4 text ≡ Some n → (n < 2 ^ 32) × (dotted n ≡ text)
+pub dotted-only : (n : ℕ) (text : List ℕ) → read4 text ≡ Some n → (n < 2 ^ 32) × (dotted n ≡ text)
 dotted-only n text h =
     let a = andThen-some (readOctetAndDot text) _ _ h in let b = andThen-some (readOctetAndDot (a .0 .1)) _ _ (a .2) in
     let c = andThen-some (readOctetAndDot (b .0 .1)) _ _ (b .2) in let d = mapped-some _ (readOctet (c .0 .1)) n (c .2) in
@@ -77,3 +79,23 @@ dotted-only n text h =
 -- the answer of a reader that answers as `read4` does
 pub dotted-exact : (text : List ℕ) (o : Option ℕ) → o ≡ read4 text → Cases o ((a : ℕ) → a < 2 ^ 32 → dotted a ≡ text → ⊥) (λ a. (a < 2 ^ 32) × (dotted a ≡ text))
 dotted-exact text o e = exactly (λ a. a < 2 ^ 32) dotted text o (λ a k w. e ∙ dotted-back a text k w) (λ a w. dotted-only a text (sym e ∙ w))
+
+-- a dotted form has no colon in it, and is longer than a group
+pub dotted-without : (m a : ℕ) → 10 ≤ digitValue m → (dot ≡ m → ⊥) → Without m (dotted a)
+dotted-without m a h k = part (a / 2 ^ 24) _ (part (a / 2 ^ 16) _ (part (a / 2 ^ 8) _ (digits a)))
+  where
+    digits : (n : ℕ) → Without m (decimal (n % 2 ^ 8))
+    digits n = without-digits 10 m (decimal (n % 2 ^ 8)) h (decimal-reads (n % 2 ^ 8) (omega arith) .0 .1)
+
+    part : (n : ℕ) (rest : List ℕ) → Without m rest → Without m (decimal (n % 2 ^ 8) ++ (dot ∷ rest))
+    part n rest w = without-append m (decimal (n % 2 ^ 8)) (dot ∷ rest) (digits n) (k, w)
+
+pub dotted-long : (a : ℕ) → 4 < length (dotted a)
+dotted-long a =
+    let d = decimal (a % 2 ^ 8) in let c = decimal (a / 2 ^ 8 % 2 ^ 8) ++ (dot ∷ d) in let b = decimal (a / 2 ^ 16 % 2 ^ 8) ++ (dot ∷ c) in
+    let x = length-append (decimal (a / 2 ^ 24 % 2 ^ 8)) (dot ∷ b) in let y = length-append (decimal (a / 2 ^ 16 % 2 ^ 8)) (dot ∷ c) in
+    let z = length-append (decimal (a / 2 ^ 8 % 2 ^ 8)) (dot ∷ d) in
+    omega (arith, x, y, z, some (a / 2 ^ 24), some (a / 2 ^ 16), some (a / 2 ^ 8), some a)
+  where
+    some : (n : ℕ) → 0 < length (decimal (n % 2 ^ 8))
+    some n = decimal-some (n % 2 ^ 8) (omega arith)

@@ -11,13 +11,14 @@ use lib.ListN.{length, getD, take, drop}
 use lib.Utf8.{encode}
 use Rattle.std.proofs.shelf.Digits.{digitsOf-step}
 use Rattle.std.proofs.shelf.Lists.{map-push, take-rest}
-use Rattle.std.proofs.shelf.Tests.{cond-false, ne-eqb, cases-lt}
+use Rattle.std.proofs.shelf.Tests.{cond-false, ne-eqb, eqb-true, eqb-false}
 use Rattle.std.proofs.shelf.Text.{encode-ascii}
 use Rattle.std.proofs.shelf.Ways.{tells}
 use Rattle.std.specs.shelf.Digits.{digitsOf}
 use Rattle.std.specs.Text.{digitChar}
 use Rattle.notation.specs.Groups.{colon}
-use Rattle.notation.specs.Ipv6Text.{hex, colons}
+use Rattle.notation.specs.Hexadecimal.{hex}
+use Rattle.notation.specs.Ipv6Text.{colons}
 
 pub hex-positive : (n : ℕ) → 0 < n → hex n ≡ map digitChar (digitsOf 16 n)
 hex-positive n h = cond-false _ (48 ∷ []) _ (ne-eqb n 0 (λ e. omega arith))
@@ -47,16 +48,16 @@ pub hex-long : (c n : ℕ) → 16 ≤ n → c ≡ digitChar (n % 16) → hex (n 
 hex-long c n h e = ap (λ l. hex (n / 16) ++ l) (encode-digit c (n % 16) (omega arith) e) ∙ hex-more n h
 
 -- and group by group
-pub colons-none : (gs : List ℕ) → length gs < 1 → [] ≡ colons gs
+pub colons-none : (gs : List ℕ) → eqb (length gs) 0 ≡ true → [] ≡ colons gs
 colons-none [] h = refl
-colons-none (g ∷ gs) h = absurd (omega arith)
+colons-none (g ∷ gs) h = absurd (omega (arith, eqb-true (suc (length gs)) 0 h))
 
-pub colons-one : (gs : List ℕ) → 1 ≤ length gs → length gs < 2 → hex (getD gs 0 0) ≡ colons gs
-colons-one [] h k = absurd (omega arith)
-colons-one (g ∷ []) h k = refl
-colons-one (g ∷ x ∷ gs) h k = absurd (omega arith)
+pub colons-one : (gs : List ℕ) → length gs ≡ 1 → hex (getD gs 0 0) ≡ colons gs
+colons-one [] h = absurd (omega arith)
+colons-one (g ∷ []) h = refl
+colons-one (g ∷ x ∷ gs) h = absurd (omega arith)
 
-pub colons-more : (gs : List ℕ) → 2 ≤ length gs → hex (getD gs 0 0) ++ (colon ∷ colons (take (length gs - 1) (drop 1 gs))) ≡ colons gs
-colons-more [] h = absurd (omega arith)
-colons-more (g ∷ []) h = absurd (omega arith)
-colons-more (g ∷ x ∷ gs) h = ap (λ l. hex g ++ (colon ∷ colons l)) (take-rest (g ∷ x ∷ gs) 1)
+pub colons-more : (gs : List ℕ) → eqb (length gs) 0 ≡ false → (length gs ≡ 1 → ⊥) → hex (getD gs 0 0) ++ (colon ∷ colons (take (length gs - 1) (drop 1 gs))) ≡ colons gs
+colons-more [] h k = absurd (eqb-false 0 0 h refl)
+colons-more (g ∷ []) h k = absurd (k refl)
+colons-more (g ∷ x ∷ gs) h k = ap (λ l. hex g ++ (colon ∷ colons l)) (take-rest (g ∷ x ∷ gs) 1)

@@ -31,7 +31,16 @@ pub mapped-some : {A B : Type 0} (f : A → B) (o : Option A) (y : B) → mapped
 mapped-some f None y h = absurd (none≢some _ h)
 mapped-some f (Some x) y h = (x, refl, some-inj h)
 
+pub cond-none : {A : Type 0} (b : Bool) {o : Option A} {y : A} → cond b o None ≡ Some y → (b ≡ true) × (o ≡ Some y)
+cond-none true h = (refl, h)
+cond-none false h = absurd (none≢some _ h)
+
 -- a reader is exact if it reads back what is written, and answers only what is written so
 pub exactly : {A : Type 0} (In : A → Type 0) (write : A → List ℕ) (text : List ℕ) (o : Option A) → ((a : A) → In a → write a ≡ text → o ≡ Some a) → ((a : A) → o ≡ Some a → In a × (write a ≡ text)) → Cases o ((a : A) → In a → write a ≡ text → ⊥) (λ a. In a × (write a ≡ text))
 exactly In write text None back only = λ a h e. none≢some a (back a h e)
 exactly In write text (Some a) back only = only a refl
+
+-- the same where a text may be written in several ways
+pub exactly-related : {A : Type 0} (R : A → Type 0) (o : Option A) → ((a : A) → R a → o ≡ Some a) → ((a : A) → o ≡ Some a → R a) → Cases o ((a : A) → R a → ⊥) R
+exactly-related R None back only = λ a w. none≢some a (back a w)
+exactly-related R (Some a) back only = only a refl

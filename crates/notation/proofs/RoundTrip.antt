@@ -1,37 +1,36 @@
--- What is written of an address reads back.
+-- What is written of an address is one of its writings, so it reads back.
 use mathlib.Core.Path.{_≡_, refl, sym, ap, subst, _∙_}
-use mathlib.Core.Bool.{Bool, true, false, cond, _&&_}
-use mathlib.Core.List.{List, [], _∷_, _++_, map, append-nil, append-assoc}
+use mathlib.Core.Bool.{Bool, true, false, cond}
+use mathlib.Core.List.{List, [], _∷_, _++_, map}
 use mathlib.Core.Logic.{_⊎_, inl, inr}
 use Prim.Native.Nat.{ℕ, zero, suc, _+_, _*_, _-_, _/_, _%_, _^_, _≤_, _<_}
 use native.Mathlib.Nat.{pow-zero, pow-suc}
 use native.Mathlib.Omega.{arith}
-use lib.Dec.{eqb, leb, ltb}
-use lib.ListN.{length, getD, drop, replicate}
+use lib.Chars.{codes}
+use lib.Dec.{eqb, ltb}
+use lib.ListN.{length, replicate}
 use Rattle.std.proofs.shelf.Digits.{digitsOf-step, length-digitsOf-le, under-digitsOf, number-digitsOf, number-push, value-is}
 use Rattle.std.proofs.shelf.Elements.{all-push}
 use Rattle.std.proofs.shelf.Lists.{length-append, length-map, length-push, length-replicate}
-use Rattle.std.proofs.shelf.Tests.{and-left, ne-eqb, eq-eqb, le-leb, cond-true, cond-false, cases-lt, ltb-false}
+use Rattle.std.proofs.shelf.Tests.{eqb-true, ltb-false}
 use Rattle.std.proofs.shelf.Ways.{tells}
 use Rattle.std.specs.declared.option.Option.{Option}
 use Rattle.std.specs.declared.option.Option.the-variants.{None, Some}
-use Rattle.std.specs.Options.{mapped, orOther, whenTrue}
 use Rattle.std.specs.Reads.{Digits, value}
 use Rattle.std.specs.shelf.Digits.{digitsOf, number, Under}
 use Rattle.std.specs.shelf.Lists.{All}
 use Rattle.std.specs.Text.{digitChar, digitValue}
-use Rattle.notation.specs.Chain.{andThen}
-use Rattle.notation.specs.Cut.{begins, cut}
-use Rattle.notation.specs.Digits.{readDigits}
-use Rattle.notation.specs.Groups.{colon, readGroup, readLast, readGroups}
-use Rattle.notation.specs.Ipv4.{read4}
-use Rattle.notation.specs.Ipv6.{whole, around, readSide, readSides, read6}
-use Rattle.notation.specs.Ipv6Text.{groupsOf, hex, colons, longestRun, sidesText, groupsText, text6}
-use Rattle.notation.proofs.Cuts.{Without, without-digits, cut-first, cut-without, cut-joins}
+use Rattle.notation.specs.Cut.{cut}
+use Rattle.notation.specs.Groups.{colon}
+use Rattle.notation.specs.Ipv4.{dotted}
+use Rattle.notation.specs.Ipv6.{read6}
+use Rattle.notation.specs.Hexadecimal.{hex}
+use Rattle.notation.specs.Ipv6Text.{groupsOf, colons, longestRun, sidesText, groupsText, isMapped, text6}
+use Rattle.notation.specs.Writings.{WritesGroup, WritesGroups, WritesSide, Whole, Shortened, Writes}
+use Rattle.notation.proofs.Cuts.{cut-joins}
 use Rattle.notation.proofs.HexText.{hex-positive}
-use Rattle.notation.proofs.Options.{none≢some, cond-some}
-use Rattle.notation.proofs.ReadGroups.{after-colon, without-colon}
-use Rattle.notation.proofs.Values.{accepted}
+use Rattle.notation.proofs.Options.{cond-some}
+use Rattle.notation.proofs.Reading.{writing-read}
 
 -- a group's digits
 
@@ -43,104 +42,28 @@ digits-back [] h = (tt, refl)
 digits-back (d ∷ ds) h = let e = digit-back d (h .0) in let r = digits-back ds (h .1) in
     ((omega (arith, e, h .0), r .0), λ i. e i ∷ r .1 i)
 
--- hexadecimal text of a number that has at most four digits
-pub record Spelt (g : ℕ) : Type 0 where
-  pub digits : Digits 16 (hex g)
-  pub filled : 0 < length (hex g)
-  pub short : length (hex g) ≤ 4
-  pub reads : value 16 (hex g) ≡ g
-
-spelt : (g : ℕ) → g < 2 ^ 16 → Spelt g
-spelt zero h = record { digits = (omega arith, tt); filled = omega arith; short = omega arith; reads = refl }
-spelt (suc n) h =
+hex-written : (g : ℕ) → g < 2 ^ 16 → WritesGroup g (hex g)
+hex-written zero h = ((omega arith, (omega arith, tt)), omega arith, refl)
+hex-written (suc n) h =
     let g = suc n in let ds = digitsOf 16 g in let e = hex-positive g (omega arith) in let r = digits-back ds (under-digitsOf 16 g (omega arith)) in
-    let long : length (hex g) ≡ length ds = ap length e ∙ length-map ds digitChar in
-    record {
-      digits = subst (Digits 16) (sym e) (r .0);
-      filled = omega (arith, long, ap length (digitsOf-step 16 g (omega arith) (omega arith)) ∙ length-push (digitsOf 16 (g / 16)) (g % 16));
-      short = omega (arith, long, length-digitsOf-le 16 4 g (omega arith) (omega arith));
-      reads = ap (value 16) e ∙ value-is 16 (map digitChar ds) ∙ ap (number 16) (r .1) ∙ number-digitsOf 16 g (omega arith);
-    }
-
-group-back : (g : ℕ) → g < 2 ^ 16 → readGroup (hex g) ≡ Some g
-group-back g h = let s = spelt g h in
-    cond-true _ (readDigits 16 65535 (hex g)) None (le-leb (length (hex g)) 4 (s .short))
-    ∙ accepted 16 65535 (hex g) (s .filled) (s .digits) (omega (arith, s .reads)) ∙ ap Some (s .reads)
-
-no-colon : (g : ℕ) → g < 2 ^ 16 → Without colon (hex g)
-no-colon g h = without-digits 16 colon (hex g) (omega arith) (spelt g h .digits)
+    let long : length (hex g) ≡ length ds = ap length e ∙ length-map ds digitChar in (
+      (omega (arith, long, ap length (digitsOf-step 16 g (omega arith) (omega arith)) ∙ length-push (digitsOf 16 (g / 16)) (g % 16)), subst (Digits 16) (sym e) (r .0)),
+      omega (arith, long, length-digitsOf-le 16 4 g (omega arith) (omega arith)),
+      ap (value 16) e ∙ value-is 16 (map digitChar ds) ∙ ap (number 16) (r .1) ∙ number-digitsOf 16 g (omega arith),
+    )
 
 -- groups with colons between
 
 abbrev Small : List ℕ → Type 0
 Small gs = All (λ g. g < 2 ^ 16) gs
 
-groups-back : (mixed : Bool) (g : ℕ) (gs : List ℕ) → Small (g ∷ gs) → readGroups mixed (colons (g ∷ gs)) ≡ Some (g ∷ gs)
-groups-back mixed g [] s =
-    without-colon mixed [] (hex g) (cut-without colon (hex g) (no-colon g (s .0)))
-    ∙ ap (λ o. orOther (mapped (λ g. g ∷ []) o) (cond mixed (mapped (λ a. a / 2 ^ 16 ∷ a % 2 ^ 16 ∷ []) (read4 (hex g))) None)) (group-back g (s .0))
-groups-back mixed g (x ∷ gs) s =
-    after-colon mixed [] (colons (g ∷ x ∷ gs)) (hex g) (colons (x ∷ gs)) (cut-first colon (hex g) (colons (x ∷ gs)) (no-colon g (s .0)))
-    ∙ (λ i. andThen (group-back g (s .0) i) (λ g. mapped (λ gs. g ∷ gs) (groups-back mixed x gs (s .1) i)))
+colons-written : (mixed : Bool) (g : ℕ) (gs : List ℕ) → Small (g ∷ gs) → WritesGroups mixed (g ∷ gs) (colons (g ∷ gs))
+colons-written mixed g [] s = inl (refl, hex-written g (s .0))
+colons-written mixed g (x ∷ gs) s = inr (inr (hex g, colons (x ∷ gs), hex-written g (s .0), colons-written mixed x gs (s .1), refl))
 
-side-filled : (mixed : Bool) (text : List ℕ) → 0 < length text → readSide mixed text ≡ readGroups mixed text
-side-filled mixed [] h = absurd (omega arith)
-side-filled mixed (c ∷ cs) h = refl
-
-colons-filled : (g : ℕ) (gs : List ℕ) → g < 2 ^ 16 → 0 < length (colons (g ∷ gs))
-colons-filled g [] h = spelt g h .filled
-colons-filled g (x ∷ gs) h = omega (arith, spelt g h .filled, length-append (hex g) (colon ∷ colons (x ∷ gs)))
-
-side-back : (mixed : Bool) (gs : List ℕ) → Small gs → readSide mixed (colons gs) ≡ Some gs
-side-back mixed [] s = refl
-side-back mixed (g ∷ gs) s = side-filled mixed (colons (g ∷ gs)) (colons-filled g gs (s .0)) ∙ groups-back mixed g gs s
-
--- the first `::` is the one that was written
-
-abbrev onto : List ℕ → List ℕ × List ℕ → List ℕ × List ℕ
-onto xs p = (xs ++ p .0, p .1)
-
-onto-more : (x : ℕ) (xs : List ℕ) (o : Option (List ℕ × List ℕ)) → mapped (λ (p : List ℕ × List ℕ). (x ∷ p .0, p .1)) (mapped (onto xs) o) ≡ mapped (onto (x ∷ xs)) o
-onto-more x xs None = refl
-onto-more x xs (Some p) = refl
-
-past-digits : (xs t : List ℕ) → Without colon xs → cut (colon ∷ colon ∷ []) (xs ++ t) ≡ mapped (onto xs) (cut (colon ∷ colon ∷ []) t)
-past-digits [] t w = none-onto (cut (colon ∷ colon ∷ []) t)
-  where
-    none-onto : (o : Option (List ℕ × List ℕ)) → o ≡ mapped (onto []) o
-    none-onto None = refl
-    none-onto (Some p) = refl
-past-digits (x ∷ xs) t w =
-    cond-false _ (Some ([], drop 2 (x ∷ (xs ++ t)))) _ (and-left (eqb x colon) _ (ne-eqb x colon (w .0)))
-    ∙ ap (mapped (λ (p : List ℕ × List ℕ). (x ∷ p .0, p .1))) (past-digits xs t (w .1)) ∙ onto-more x xs (cut (colon ∷ colon ∷ []) t)
-
-not-colon : (t : List ℕ) → (getD t 0 colon ≡ colon → ⊥) → begins (colon ∷ []) t ≡ false
-not-colon [] h = absurd (h refl)
-not-colon (c ∷ cs) h = and-left (eqb c colon) true (ne-eqb c colon h)
-
-past-colon : (t : List ℕ) → (getD t 0 colon ≡ colon → ⊥) → cut (colon ∷ colon ∷ []) (colon ∷ t) ≡ mapped (onto (colon ∷ [])) (cut (colon ∷ colon ∷ []) t)
-past-colon t h = cond-false _ (Some ([], drop 1 t)) _ (not-colon t h)
-
-first-digit : (xs t : List ℕ) → 0 < length xs → Without colon xs → getD (xs ++ t) 0 colon ≡ colon → ⊥
-first-digit [] t h w e = omega arith
-first-digit (x ∷ xs) t h w e = w .0 e
-
-colons-first : (g : ℕ) (gs t : List ℕ) → g < 2 ^ 16 → getD (colons (g ∷ gs) ++ t) 0 colon ≡ colon → ⊥
-colons-first g [] t h e = first-digit (hex g) t (spelt g h .filled) (no-colon g h) e
-colons-first g (x ∷ gs) t h e = first-digit (hex g) ((colon ∷ colons (x ∷ gs)) ++ t) (spelt g h .filled) (no-colon g h) (ap (λ l. getD l 0 colon) (sym (append-assoc (hex g) (colon ∷ colons (x ∷ gs)) t)) ∙ e)
-
-past-colons : (gs t : List ℕ) → Small gs → cut (colon ∷ colon ∷ []) (colons gs ++ t) ≡ mapped (onto (colons gs)) (cut (colon ∷ colon ∷ []) t)
-past-colons [] t s = past-digits [] t tt
-past-colons (g ∷ []) t s = past-digits (hex g) t (no-colon g (s .0))
-past-colons (g ∷ x ∷ gs) t s =
-    ap (cut (colon ∷ colon ∷ [])) (append-assoc (hex g) (colon ∷ colons (x ∷ gs)) t)
-    ∙ past-digits (hex g) (colon ∷ (colons (x ∷ gs) ++ t)) (no-colon g (s .0))
-    ∙ ap (mapped (onto (hex g))) (past-colon (colons (x ∷ gs) ++ t) (colons-first x gs t (s .1 .0)) ∙ ap (mapped (onto (colon ∷ []))) (past-colons (x ∷ gs) t (s .1)))
-    ∙ onto-onto (cut (colon ∷ colon ∷ []) t)
-  where
-    onto-onto : (o : Option (List ℕ × List ℕ)) → mapped (onto (hex g)) (mapped (onto (colon ∷ [])) (mapped (onto (colons (x ∷ gs))) o)) ≡ mapped (onto (hex g ++ (colon ∷ colons (x ∷ gs)))) o
-    onto-onto None = refl
-    onto-onto (Some p) = ap (λ l. Some (l, p .1)) (sym (append-assoc (hex g) (colon ∷ colons (x ∷ gs)) (p .0)))
+side-written : (mixed : Bool) (gs : List ℕ) → Small gs → WritesSide mixed gs (colons gs)
+side-written mixed [] s = refl
+side-written mixed (g ∷ gs) s = colons-written mixed g gs s
 
 -- the groups of an address
 
@@ -162,41 +85,62 @@ small-right : (xs ys : List ℕ) → Small (xs ++ ys) → Small ys
 small-right [] ys s = s
 small-right (x ∷ xs) ys s = small-right xs ys (s .1)
 
--- a text without `::`
-whole-back : (gs : List ℕ) → length gs ≡ 8 → Small gs → read6 (colons gs) ≡ Some (number (2 ^ 16) gs)
-whole-back [] e s = absurd (omega arith)
-whole-back (g ∷ gs) e s =
-    ap (readSides (colons (g ∷ gs))) (ap (cut (colon ∷ colon ∷ [])) (sym (append-nil (colons (g ∷ gs)))) ∙ past-colons (g ∷ gs) [] s)
-    ∙ ap (λ o. andThen o whole) (groups-back true g gs s)
-    ∙ ap (λ b. whenTrue b (number (2 ^ 16) (g ∷ gs))) (eq-eqb (length (g ∷ gs)) 8 e)
+-- all the groups, or those on both sides of `::`
 
--- a text with `::` for n zeros
-around-back : (l r : List ℕ) (n : ℕ) → length l + n + length r ≡ 8 → 1 ≤ n → Small l → Small r → read6 (colons l ++ (colon ∷ colon ∷ colons r)) ≡ Some (number (2 ^ 16) (l ++ (replicate n 0 ++ r)))
-around-back l r n e h sl sr =
-    let t = colons l ++ (colon ∷ colon ∷ colons r) in
-    ap (readSides t) (past-colons l (colon ∷ colon ∷ colons r) sl ∙ ap (λ x. Some (x, colons r)) (append-nil (colons l)))
-    ∙ (λ i. andThen (side-back false l sl i) (λ left. andThen (side-back true r sr i) (λ right. around left right)))
-    ∙ ap (λ b. whenTrue b (number (2 ^ 16) (l ++ (replicate (8 - (length l + length r)) 0 ++ r)))) (le-leb (length l + length r) 7 (omega arith))
-    ∙ ap (λ m. Some (number (2 ^ 16) (l ++ (replicate m 0 ++ r)))) {x = 8 - (length l + length r)} {y = n} (omega arith)
+whole-written : (gs : List ℕ) → length gs ≡ 8 → Small gs → Whole (number (2 ^ 16) gs) (colons gs)
+whole-written [] e s = absurd (omega arith)
+whole-written (g ∷ gs) e s = record { groups = g ∷ gs; eight = e; means = refl; written = colons-written true g gs s }
 
-groups-text-back : (gs : List ℕ) → length gs ≡ 8 → Small gs → read6 (groupsText gs) ≡ Some (number (2 ^ 16) gs)
-groups-text-back gs e s = by (cond (ltb (longestRun gs) 2) None (cut (replicate (longestRun gs) 0) gs)) (λ p k. cond-some (ltb (longestRun gs) 2) k)
+groups-written : (gs : List ℕ) → length gs ≡ 8 → Small gs → Writes (number (2 ^ 16) gs) (groupsText gs)
+groups-written gs e s = by (cond (ltb (longestRun gs) 2) None (cut (replicate (longestRun gs) 0) gs)) (λ p k. cond-some (ltb (longestRun gs) 2) k)
   where
-    by : (o : Option (List ℕ × List ℕ)) → ((p : List ℕ × List ℕ) → o ≡ Some p → (ltb (longestRun gs) 2 ≡ false) × (cut (replicate (longestRun gs) 0) gs ≡ Some p)) → read6 (sidesText gs o) ≡ Some (number (2 ^ 16) gs)
-    by None k = whole-back gs e s
+    by : (o : Option (List ℕ × List ℕ)) → ((p : List ℕ × List ℕ) → o ≡ Some p → (ltb (longestRun gs) 2 ≡ false) × (cut (replicate (longestRun gs) 0) gs ≡ Some p)) → Writes (number (2 ^ 16) gs) (sidesText gs o)
+    by None k = inl (whole-written gs e s)
     by (Some p) k =
-        let n = longestRun gs in let q = k p refl in
-        let j = cut-joins (replicate n 0) gs (p .0) (p .1) (q .1) in
+        let q = k p refl in
+        let j = cut-joins (replicate (longestRun gs) 0) gs (p .0) (p .1) (q .1) in
         let all = subst Small j s in
         let low : 2 ≤ longestRun gs = ltb-false (longestRun gs) 2 (q .0) in
         let long : length (p .0) + longestRun gs + length (p .1) ≡ 8 =
         omega (arith, ap length j, length-append (p .0) (replicate (longestRun gs) 0 ++ p .1), length-append (replicate (longestRun gs) 0) (p .1), length-replicate {A = ℕ} (longestRun gs) 0) in
-        around-back (p .0) (p .1) n long (omega arith) (small-left (p .0) _ all) (small-right (replicate n 0) (p .1) (small-right (p .0) _ all))
-        ∙ ap (λ x. Some (number (2 ^ 16) x)) (sym j)
+        inr (record {
+          left = p .0;
+          right = p .1;
+          room = omega arith;
+          means = ap (λ m. number (2 ^ 16) (p .0 ++ (replicate m 0 ++ p .1))) {x = 8 - (length (p .0) + length (p .1))} {y = longestRun gs} (omega arith) ∙ ap (number (2 ^ 16)) (sym j);
+          before = colons (p .0);
+          after = colons (p .1);
+          before-written = side-written false (p .0) (small-left (p .0) _ all);
+          after-written = side-written true (p .1) (small-right (replicate (longestRun gs) 0) (p .1) (small-right (p .0) _ all));
+          written = refl;
+        })
 
-pub round-trip : (a : ℕ) → a < 2 ^ 128 → read6 (text6 a) ≡ Some a
-round-trip a h = groups-text-back (groupsOf 8 a) refl (groups-small 8 a) ∙ ap Some (groups-number 8 a h)
+-- an address that holds an IPv4 address
+mapped-written : (a : ℕ) → isMapped a ≡ true → Shortened a (codes "::ffff:" ++ dotted (a % 2 ^ 32))
+mapped-written a m =
+    let x = a % 2 ^ 32 in let e = eqb-true (a / 2 ^ 32) 65535 m in
+    record {
+      left = [];
+      right = 65535 ∷ x / 2 ^ 16 ∷ x % 2 ^ 16 ∷ [];
+      room = omega arith;
+      means = joined a e;
+      before = [];
+      after = codes "ffff:" ++ dotted x;
+      before-written = refl;
+      after-written = inr (inr (codes "ffff", dotted x, hex-written 65535 (omega arith), inr (inl (refl, (x, omega arith, refl, refl))), refl));
+      written = refl;
+    }
+  where
+    joined : (a : ℕ) → a / 2 ^ 32 ≡ 65535 → (65535 * 2 ^ 16 + a % 2 ^ 32 / 2 ^ 16) * 2 ^ 16 + a % 2 ^ 32 % 2 ^ 16 ≡ a
+    joined a e = omega arith
+
+pub text-written : (a : ℕ) → a < 2 ^ 128 → Writes a (text6 a)
+text-written a h = by (isMapped a) refl
+  where
+    by : (b : Bool) → isMapped a ≡ b → Writes a (cond b (codes "::ffff:" ++ dotted (a % 2 ^ 32)) (groupsText (groupsOf 8 a)))
+    by true m = inr (mapped-written a m)
+    by false m = subst (λ n. Writes n (groupsText (groupsOf 8 a))) (groups-number 8 a h) (groups-written (groupsOf 8 a) refl (groups-small 8 a))
 
 -- a reader that answers as `read6` does
 pub reads-back : (text : List ℕ) (o : Option ℕ) → o ≡ read6 text → (a : ℕ) → a < 2 ^ 128 → text6 a ≡ text → o ≡ Some a
-reads-back text o e a h k = e ∙ ap read6 (sym k) ∙ round-trip a h
+reads-back text o e a h k = e ∙ ap read6 (sym k) ∙ writing-read a (text6 a) (text-written a h)

@@ -1,24 +1,21 @@
--- How an IPv6 address is written (RFC 5952, section 4).
+-- How an IPv6 address is written (RFC 5952, sections 4 and 5).
 use mathlib.Core.Bool.{Bool, cond}
-use mathlib.Core.List.{List, [], _∷_, _++_, map}
+use mathlib.Core.List.{List, [], _∷_, _++_}
 use Prim.Native.Nat.{ℕ, zero, suc, max, _/_, _%_, _^_}
+use lib.Chars.{codes}
 use lib.Dec.{eqb, ltb}
 use lib.ListN.{replicate}
 use Rattle.std.specs.declared.option.Option.{Option}
 use Rattle.std.specs.declared.option.Option.the-variants.{None, Some}
-use Rattle.std.specs.shelf.Digits.{digitsOf}
-use Rattle.std.specs.Text.{digitChar}
 use Rattle.notation.specs.Cut.{cut}
 use Rattle.notation.specs.Groups.{colon}
+use Rattle.notation.specs.Hexadecimal.{hex}
+use Rattle.notation.specs.Ipv4.{dotted}
 
 -- the lowest n groups of 16 bits of a, the most significant first
 abbrev pub groupsOf : ℕ → ℕ → List ℕ
 groupsOf zero a = []
 groupsOf (suc n) a = groupsOf n (a / 2 ^ 16) ++ (a % 2 ^ 16 ∷ [])
-
--- hexadecimal digits in lower case without leading zeros
-abbrev pub hex : ℕ → List ℕ
-hex n = cond (eqb n 0) (48 ∷ []) (map digitChar (digitsOf 16 n))
 
 -- groups with colons between
 abbrev pub colons : List ℕ → List ℕ
@@ -45,5 +42,9 @@ sidesText groups (Some sides) = colons (sides .0) ++ (colon ∷ colon ∷ colons
 abbrev pub groupsText : List ℕ → List ℕ
 groupsText groups = sidesText groups (cond (ltb (longestRun groups) 2) None (cut (replicate (longestRun groups) 0) groups))
 
+-- ::ffff:0:0/96, the addresses that hold an IPv4 address (RFC 5952, section 5)
+abbrev pub isMapped : ℕ → Bool
+isMapped a = eqb (a / 2 ^ 32) 65535
+
 abbrev pub text6 : ℕ → List ℕ
-text6 a = groupsText (groupsOf 8 a)
+text6 a = cond (isMapped a) (codes "::ffff:" ++ dotted (a % 2 ^ 32)) (groupsText (groupsOf 8 a))

@@ -8,6 +8,9 @@ ghost use Rattle.notation.specs.Groups.{total};
 // How many groups an address has.
 pub(crate) const GROUPS: u32 = 8;
 
+// How many values a group of 16 bits has.
+pub(crate) const GROUP_VALUES: u128 = 65536;
+
 #[derive(Clone, Copy)]
 pub(crate) struct Groups {
     pub(crate) count: u32,
@@ -33,7 +36,7 @@ impl Groups {
         }
         Some(Groups {
             count: self.count + 1,
-            value: self.value * 65536 + u128::from(group),
+            value: self.value * GROUP_VALUES + u128::from(group),
         })
     }
 }

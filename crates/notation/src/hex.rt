@@ -1,13 +1,14 @@
-// Numbers in hexadecimal digits, and groups of them as an IPv6 address has them.
+// Numbers written in hexadecimal, and groups of them as an IPv6 address has them.
 ghost use mathlib.Core.Path.{_≡_};
 ghost use Prim.Native.Nat.{_<_};
+ghost use Rattle.std.specs.declared.option.Option.the-variants.{Some};
 ghost use Rattle.std.specs.Text.{digitChar};
 ghost use Rattle.std.specs.Written.{Prints};
-ghost use Rattle.std.specs.declared.option.Option.the-variants.{Some};
-ghost use Rattle.notation.specs.Ipv6Text.{colons, hex};
+ghost use Rattle.notation.specs.Hexadecimal.{hex};
+ghost use Rattle.notation.specs.Ipv6Text.{colons};
 use std::fmt;
 
-// A number that is written in hexadecimal digits, in lower case without leading zeros.
+// A number that is written in lower case without leading zeros.
 #[derive(Clone, Copy)]
 pub struct HexText(pub u128);
 
@@ -23,7 +24,7 @@ pub impl fmt::Display for HexText as HexDisplay {
 pub(crate) fn write_groups<W: fmt::Write>(groups: &[u16], f: &mut fmt::Formatter<W>) -> fmt::Result
     ensures { λ r. ⌜ Prints took (now (f .entry)) r (colons (now (groups .entry))) (now (f .exit)) ⌝ }
 {
-    if groups.len() == 0 {
+    if groups.is_empty() {
         Ok(())
     } else if groups.len() == 1 {
         write_hex(groups[0] as u128, f)

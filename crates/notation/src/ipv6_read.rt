@@ -4,12 +4,14 @@ ghost use mathlib.Core.Bool.{true, false};
 ghost use Prim.Native.Nat.{ℕ, _+_, _*_, _-_, _^_, _<_};
 ghost use lib.Dec.{leb};
 ghost use Rattle.std.specs.declared.option.Option.the-variants.{Some};
-ghost use Rattle.std.specs.Options.{mapped, whenTrue};
+ghost use Rattle.std.specs.Options.{Cases, mapped, whenTrue};
 ghost use Rattle.notation.specs.Chain.{andThen};
 ghost use Rattle.notation.specs.Groups.{readGroup, readGroups, readLast, total};
 ghost use Rattle.notation.specs.Ipv6.{read6, readShortened, readSide, readWhole};
 ghost use Rattle.notation.specs.Ipv6Text.{text6};
+ghost use Rattle.notation.specs.Writings.{Writes};
 use crate::digits::parse_digits;
+use crate::groups::GROUP_VALUES;
 use crate::groups::GROUPS;
 use crate::groups::Groups;
 use crate::ipv4::parse_ipv4;
@@ -19,6 +21,7 @@ use crate::split::split_once;
 // `::` may stand once for one or more groups of zeros, and the last two may be in dotted form.
 pub fn parse_ipv6(text: &[u8]) -> Option<u128>
     ensures value { λ r. ⌜ r ≡ read6 (now (text .entry)) ⌝ }
+    ensures written { λ r. ⌜ Cases r ((a : ℕ) → Writes a (now (text .entry)) → ⊥) (λ a. Writes a (now (text .entry))) ⌝ }
     ensures round_trip { λ r. ⌜ ((a : ℕ) → a < 2 ^ 128 → text6 a ≡ now (text .entry) → r ≡ Some a) ⌝ }
 {
     match split_once(text, b"::") {
@@ -51,13 +54,20 @@ fn parse_shortened(left: &[u8], right: &[u8]) -> Option<u128>
 fn join_around_zeros(left: Groups, right: Groups) -> Option<u128>
     ensures { λ r. ⌜ r ≡ whenTrue (leb (left .count + right .count) 7) (left .value * 65536 ^ (8 - left .count) + right .value) ⌝ }
 {
-    if left.count + right.count >= GROUPS {
+    if !leave_room(left, right) {
         None
     } else if left.count == 0 {
         Some(right.value)
     } else {
-        Some(left.value * 65536u128.pow(GROUPS - left.count) + right.value)
+        Some(left.value * GROUP_VALUES.pow(GROUPS - left.count) + right.value)
     }
+}
+
+// Whether there is a group left for `::` to stand for.
+fn leave_room(left: Groups, right: Groups) -> bool
+    ensures { λ r. ⌜ r ≡ leb (left .count + right .count) 7 ⌝ }
+{
+    left.count + right.count < GROUPS
 }
 
 // The groups on one side of `::`, where there may be none.

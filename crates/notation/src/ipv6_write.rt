@@ -1,11 +1,14 @@
-// IPv6 addresses written as RFC 5952, section 4, recommends.
+// IPv6 addresses written as RFC 5952, sections 4 and 5, recommends.
 ghost use mathlib.Core.Path.{_≡_};
 ghost use Prim.Native.Nat.{_/_, _%_, _^_, _<_};
 ghost use Rattle.std.specs.declared.option.Option.the-variants.{Some};
+ghost use Rattle.std.specs.Options.{mapped, whenTrue};
 ghost use Rattle.std.specs.Written.{Prints};
-ghost use Rattle.notation.specs.Ipv6Text.{groupsOf, groupsText, text6};
+ghost use Rattle.notation.specs.Ipv6Text.{groupsOf, groupsText, isMapped, text6};
+use crate::groups::GROUP_VALUES;
 use crate::hex::write_groups;
-use crate::zero_run::ZeroRun;
+use crate::ipv4::Ipv4Display;
+use crate::ipv4::Ipv4Text;
 use crate::zero_run::longest_zero_run;
 use std::fmt;
 
@@ -13,11 +16,27 @@ use std::fmt;
 #[derive(Clone, Copy)]
 pub struct Ipv6Text(pub u128);
 
+impl Ipv6Text {
+    // The IPv4 address that an address of ::ffff:0:0/96 holds.
+    fn mapped_ipv4(&self) -> Option<Ipv4Text>
+        ensures { λ r. ⌜ mapped (λ x. x .0) r ≡ whenTrue (isMapped (now (self .entry) .0)) (now (self .entry) .0 % 2 ^ 32) ⌝ }
+    {
+        if self.0 / (1 << 32) == 0xffff {
+            Some(Ipv4Text((self.0 % (1 << 32)) as u32))
+        } else {
+            None
+        }
+    }
+}
+
 pub impl fmt::Display for Ipv6Text as Ipv6Display {
     ghost shown = { λ x. Some (text6 (x .0)) };
 
     fn fmt<W: fmt::Write>(&self, f: &mut fmt::Formatter<W>) -> fmt::Result {
-        write_shortened(&groups_of(self.0), f)
+        match self.mapped_ipv4() {
+            Some(address) => write!(f, "::ffff:{address}"),
+            None => write_shortened(&groups_of(self.0), f),
+        }
     }
 }
 
@@ -25,14 +44,15 @@ pub impl fmt::Display for Ipv6Text as Ipv6Display {
 fn write_shortened<W: fmt::Write>(groups: &[u16], f: &mut fmt::Formatter<W>) -> fmt::Result
     ensures { λ r. ⌜ Prints took (now (f .entry)) r (groupsText (now (groups .entry))) (now (f .exit)) ⌝ }
 {
-    let ZeroRun { start, len } = longest_zero_run(groups);
-    if len < 2 {
-        write_groups(groups, f)
-    } else {
-        write_groups(&groups[0..start], f)?;
-        f.write_str("::")?;
-        write_groups(&groups[start + len..], f)
+    let run = longest_zero_run(groups);
+    if !run.is_shortened() {
+        return write_groups(groups, f);
     }
+    let start = run.start;
+    let end = run.start + run.len;
+    write_groups(&groups[0..start], f)?;
+    f.write_str("::")?;
+    write_groups(&groups[end..], f)
 }
 
 // The eight groups, the most significant first.
@@ -56,5 +76,5 @@ fn group(address: u128, place: u32) -> u16
     requires { ⌜ place < 8 ⌝ }
     ensures { λ r. ⌜ r ≡ address / 65536 ^ place % 65536 ⌝ }
 {
-    (address / 65536u128.pow(place) % 65536) as u16
+    (address / GROUP_VALUES.pow(place) % GROUP_VALUES) as u16
 }

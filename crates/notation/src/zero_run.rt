@@ -1,6 +1,7 @@
 // The run of zeros that `::` replaces in a written IPv6 address.
 ghost use mathlib.Core.Path.{_≡_};
 ghost use Prim.Native.Nat.{_+_, _≤_, _<_};
+ghost use lib.Dec.{leb, ltb};
 ghost use lib.ListN.{length, take, drop, replicate};
 ghost use Rattle.std.specs.declared.option.Option.the-variants.{Some};
 ghost use Rattle.notation.specs.Cut.{cut};
@@ -12,6 +13,21 @@ pub(crate) struct ZeroRun {
     pub(crate) len: usize,
 }
 
+impl ZeroRun {
+    fn is_longer_than(self, other: ZeroRun) -> bool
+        ensures { λ r. ⌜ r ≡ ltb (other .len) (self .len) ⌝ }
+    {
+        self.len > other.len
+    }
+
+    // A single group of zeros is not shortened.
+    pub(crate) fn is_shortened(self) -> bool
+        ensures { λ r. ⌜ r ≡ leb 2 (self .len) ⌝ }
+    {
+        self.len >= 2
+    }
+}
+
 // The longest run of zeros, and the first of equally long ones.
 pub(crate) fn longest_zero_run(groups: &[u16]) -> ZeroRun
     ensures longest { λ r. ⌜ r .len ≡ longestRun (now (groups .entry)) ⌝ }
@@ -20,9 +36,12 @@ pub(crate) fn longest_zero_run(groups: &[u16]) -> ZeroRun
 {
     let mut longest = ZeroRun { start: 0, len: 0 };
     for start in 0..groups.len() {
-        let len = leading_zeros(&groups[start..]);
-        if len > longest.len {
-            longest = ZeroRun { start, len };
+        let run = ZeroRun {
+            start,
+            len: leading_zeros(&groups[start..]),
+        };
+        if run.is_longer_than(longest) {
+            longest = run;
         }
     }
     longest

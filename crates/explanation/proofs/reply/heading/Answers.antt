@@ -2,7 +2,7 @@ use mathlib.Core.Path.{ap, _∙_}
 use mathlib.Core.List.{[], _∷_, _++_}
 use lib.Chars.{codes}
 use Rattle.std.proofs.shelf.Results.{made-weaker}
-use Rattle.notation.specs.Ipv6Text.{hex}
+use Rattle.notation.specs.Hexadecimal.{hex}
 use Rattle.explanation.specs.Texts.{prefixText}
 use Rattle.explanation.proofs.reply.heading.Needs as need
 

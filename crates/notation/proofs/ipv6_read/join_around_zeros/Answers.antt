@@ -1,7 +1,8 @@
 -- The power and the address fit.
-use mathlib.Core.Path.{_≡_, sym, ap, subst}
+use mathlib.Core.Path.{_≡_, sym, ap, subst, _∙_}
 use Prim.Native.Nat.{ℕ, _+_, _*_, _-_, _^_, _<_, _≤_}
 use native.Mathlib.Omega.{arith}
+use Rattle.std.proofs.shelf.Tests.{leb-true}
 use Rattle.notation.proofs.GroupSums.{around-lt, power-lt}
 use Rattle.notation.proofs.ipv6_read.join_around_zeros.Needs as need
 
@@ -12,7 +13,7 @@ pub pow-requires : need.pow-requires
 pow-requires c κs = power-lt (8 - c .args .left .count) (omega arith)
 
 pub mul-result : need.mul-result
-mul-result c = omega (arith, fits (c .args .left .count) (c .args .right .count) (c .args .left .value) (c .args .right .value) (c .pow .result) (omega arith) (c .args .left .fits) (c .args .right .fits) (c .pow .ensures))
+mul-result c = let room = leb-true _ _ (sym (c .leave-room .ensures) ∙ c .if-not-leave-room .left) in omega (arith, fits (c .args .left .count) (c .args .right .count) (c .args .left .value) (c .args .right .value) (c .pow .result) (omega arith) (c .args .left .fits) (c .args .right .fits) (c .pow .ensures))
 
 pub add-result : need.add-result
-add-result c = omega (arith, fits (c .args .left .count) (c .args .right .count) (c .args .left .value) (c .args .right .value) (c .pow .result) (omega arith) (c .args .left .fits) (c .args .right .fits) (c .pow .ensures))
+add-result c = let room = leb-true _ _ (sym (c .leave-room .ensures) ∙ c .if-not-leave-room .left) in omega (arith, fits (c .args .left .count) (c .args .right .count) (c .args .left .value) (c .args .right .value) (c .pow .result) (omega arith) (c .args .left .fits) (c .args .right .fits) (c .pow .ensures))

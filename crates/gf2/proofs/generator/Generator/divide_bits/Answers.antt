@@ -40,6 +40,7 @@ mul-remainder c = omega (arith, after c .product-small, ap₂ _*_ (c .goes-into-
 pub loop-k-again : need.loop-k-again
 loop-k-again c =
     let digit = c .goes-into-digit .ensures in
-    let next = c .loop-k .remainder * 2 + c .args .dividend / 2 ^ (c .loop-k .k - 1) % 2 in
-    (ap (λ d. c .loop-k .quotient * 2 + d) digit ∙ after c .quotient,
-      ap (bitXor next) (ap₂ _*_ digit (c .poly-poly .ensures)) ∙ after c .remainder)
+    let next = c .loop-k .remainder * 2 + c .args .dividend / 2 ^ (c .loop-k .k - 1) % 2 in (
+      ap (λ d. c .loop-k .quotient * 2 + d) digit ∙ after c .quotient,
+      ap (bitXor next) (ap₂ _*_ digit (c .poly-poly .ensures)) ∙ after c .remainder,
+    )
