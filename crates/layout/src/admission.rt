@@ -31,7 +31,7 @@ impl Width {
     // How many bits the digests of this width have at most.
     pub fn digest_bits(&self, generator: &Generator) -> u8
         ensures value { λ r. ⌜ r ≡ now (self .entry) .bits - now (generator .entry) .degree ⌝ }
-        ensures bound { λ r. ⌜ ((P l : ℕ) → P < 2 ^ (now (self .entry) .bits) → digest (now (self .entry) .bits) (now (generator .entry)) P l < 2 ^ r) ⌝ }
+        ensures bound { λ _. ⌜ ((P l : ℕ) → P < 2 ^ (now (self .entry) .bits) → digest (now (self .entry) .bits) (now (generator .entry)) P l < 2 ^ (now (self .entry) .bits - now (generator .entry) .degree)) ⌝ }
     {
         self.bits() - generator.degree() as u8
     }

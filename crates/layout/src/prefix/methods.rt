@@ -52,6 +52,7 @@ impl Prefix {
     pub fn covers(&self, address: u128) -> bool
         ensures { λ r. ⌜ r ≡ eqb (rounded (now (self .entry) .width .bits) (now (self .entry) .length) address) (now (self .entry) .address) ⌝ }
     {
-        self.width.round(address, self.length) == self.address
+        let rounded = self.width.round(address, self.length);
+        rounded == self.address
     }
 }

@@ -1,5 +1,6 @@
 use mathlib.Core.Path.{sym, subst}
 use Prim.Native.Nat.{_+_}
+use native.Mathlib.Omega.{arith}
 use Rattle.layout.proofs.Homes.{Best, best-new, best-kept, best-all}
 use Rattle.layout.proofs.treads.home_number.Needs as need
 use Rattle.layout.proofs.treads.home_number.Needs.{then-tread-length, else-tread-length}
@@ -11,10 +12,10 @@ loop-number-again c =
     elim (c .if-tread-length .came) [
       | then-tread-length w ↦
           subst (Best ts (c .args .length) (n + 1)) (sym (w .home-is))
-          (best-new (c .args .bits) ts (c .args .length) n (c .pre) (c .loop-number-test .taken) (w .if-tread-length .taken))
+          (best-new (c .args .bits) ts (c .args .length) n (c .pre) (c .loop-number-test .taken) (omega (arith, w .if-tread-length .taken)))
       | else-tread-length w ↦
           subst (Best ts (c .args .length) (n + 1)) (sym (w .home-is))
-          (best-kept ts (c .args .length) n (c .loop-number .home) (c .loop-number .inv) (w .if-tread-length .left))
+          (best-kept ts (c .args .length) n (c .loop-number .home) (c .loop-number .inv) (omega (arith, w .if-tread-length .left)))
     ]
 
 pub returns : need.returns
