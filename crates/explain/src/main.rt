@@ -1,5 +1,6 @@
 // Reads lines `LIST ADDRESS/LENGTH` from standard input, and writes for each where the prefix may stand, and why not
 // elsewhere. Everything that is said is made by the library `explanation`; this only moves bytes.
+use explanation::line::without_end;
 use explanation::reply::reply;
 use std::error::AnyError;
 use std::io::BufRead;
@@ -21,12 +22,4 @@ fn run(rt: &LibcRuntime) -> Result<(), AnyError> {
         rt.print(reply(heap, without_end(&line))?)?;
     }
     Ok(())
-}
-
-// The line without the byte that ends it; a last line may have none.
-fn without_end(line: &[u8]) -> &[u8] {
-    match line {
-        [front @ .., b'\n'] => front,
-        _ => line,
-    }
 }

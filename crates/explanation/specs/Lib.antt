@@ -1,3 +1,4 @@
+pub mod Ends
 pub mod Lines
 pub mod Queries
 pub mod Places

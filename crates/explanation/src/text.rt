@@ -1,5 +1,6 @@
 // How a query is answered in words.
 ghost use mathlib.Core.Path.{_≡_};
+ghost use lib.Dec.{eqb};
 ghost use Rattle.std.specs.declared.option.Option.the-variants.{Some};
 ghost use Rattle.explanation.specs.Texts.{prefixText, confusedText, placeText, faultText};
 use crate::place::Place;
@@ -22,7 +23,7 @@ pub impl fmt::Display for PrefixText as PrefixTextDisplay {
 
     fn fmt<W: fmt::Write>(&self, f: &mut fmt::Formatter<W>) -> fmt::Result {
         let length = self.0.length();
-        if self.0.width().bits() == 32 {
+        if is_ipv4(&self.0) {
             let address = Ipv4Text(self.0.address() as u32);
             write!(f, "{address}/{length}")
         } else {
@@ -30,6 +31,13 @@ pub impl fmt::Display for PrefixText as PrefixTextDisplay {
             write!(f, "{address}/{length}")
         }
     }
+}
+
+// Whether the prefix has the 32 bits of IPv4.
+fn is_ipv4(prefix: &Prefix) -> bool
+    ensures { λ r. ⌜ r ≡ eqb (now (prefix .entry) .width .bits) 32 ⌝ }
+{
+    prefix.width().bits() == 32
 }
 
 // What is added to a place where a tread does not admit the prefix.

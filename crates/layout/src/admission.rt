@@ -22,10 +22,10 @@ impl Width {
         let bits = self.bits();
         let degree = generator.degree();
         let lowest = generator.lowest();
-        let tread_near_end = bits.saturating_sub(tread) as u32 <= degree;
-        let length_far_from_end = degree + lowest <= bits.saturating_sub(length) as u32;
-        let tread_near_length = (length - tread) as u32 <= degree - lowest;
-        tread_near_end | length_far_from_end | tread_near_length
+        let after_tread = bits.saturating_sub(tread) as u32;
+        let after_length = bits.saturating_sub(length) as u32;
+        let between = (length - tread) as u32;
+        (after_tread <= degree) | (degree + lowest <= after_length) | (between <= degree - lowest)
     }
 
     // How many bits the digests of this width have at most.
