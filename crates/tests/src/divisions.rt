@@ -16,7 +16,9 @@ fn times(factor: u128, poly: u32) -> u128 {
 #[test]
 fn quotient_times_generator_plus_remainder() -> Result<(), Fail> {
     for poly in [0x1100D, 0x11D, 0x13, 0x11, 0x10001, 0x1FFFF] {
-        let generator = Generator::new(poly).ok_or("no generator")?;
+        let Some(generator) = Generator::new(poly) else {
+            return Err(Fail::new("no generator"));
+        };
         let mut dividend = 0x2001_0DB8_0000_0000_0000_0000_C000_0201u128;
         for _ in 0..100 {
             let division = generator.divide(dividend);
@@ -48,7 +50,9 @@ fn exponents() -> Result<(), Fail> {
         (0x11, 4, 4),
         (0x10001, 16, 16),
     ] {
-        let generator = Generator::new(poly).ok_or("no generator")?;
+        let Some(generator) = Generator::new(poly) else {
+            return Err(Fail::new("no generator"));
+        };
         check_eq(generator.poly(), poly)?;
         check_eq(generator.degree(), degree)?;
         check_eq(generator.lowest(), lowest)?;

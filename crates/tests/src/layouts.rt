@@ -15,7 +15,9 @@ use std::test::*;
 
 #[test]
 fn divisions_and_digests() -> Result<(), Fail> {
-    let generator = Generator::new(0x1100D).ok_or("no generator")?;
+    let Some(generator) = Generator::new(0x1100D) else {
+        return Err(Fail::new("no generator"));
+    };
     for (address, quotient, remainder) in [
         (0x0001_0000, 1, 0x100D),
         (0x0A00_0000, 0x0AAA, 0xD552),
@@ -37,20 +39,25 @@ fn divisions_and_digests() -> Result<(), Fail> {
 
 #[test]
 fn admissions() -> Result<(), Fail> {
-    let generator = Generator::new(0x1100D).ok_or("no generator")?;
-    for (width, length, tread, admitted) in [
-        (Width::IPV4, 24, 10, true),
-        (Width::IPV4, 24, 9, false),
-        (Width::IPV4, 32, 16, true),
-        (Width::IPV4, 32, 15, false),
-        (Width::IPV4, 14, 0, true),
-        (Width::IPV4, 15, 0, false),
-        (Width::IPV6, 110, 0, true),
-        (Width::IPV6, 111, 0, false),
-        (Width::IPV6, 111, 97, true),
-        (Width::IPV6, 111, 96, false),
-        (Width::IPV4, 8, 9, false),
+    let Some(generator) = Generator::new(0x1100D) else {
+        return Err(Fail::new("no generator"));
+    };
+    for (bits, length, tread, admitted) in [
+        (32, 24, 10, true),
+        (32, 24, 9, false),
+        (32, 32, 16, true),
+        (32, 32, 15, false),
+        (32, 14, 0, true),
+        (32, 15, 0, false),
+        (128, 110, 0, true),
+        (128, 111, 0, false),
+        (128, 111, 97, true),
+        (128, 111, 96, false),
+        (32, 8, 9, false),
     ] {
+        let Some(width) = Width::new(bits) else {
+            return Err(Fail::new("no width"));
+        };
         check_eq(width.admits(&generator, length, tread), admitted)?;
     }
     Ok(())
@@ -137,7 +144,9 @@ fn prefixes() -> Result<(), Fail> {
 #[test]
 fn confusions() -> Result<(), Fail> {
     for name in ["v4", "v4-small", "v6"] {
-        let layout = named(name).ok_or("no list")?;
+        let Some(layout) = named(name) else {
+            return Err(Fail::new("no list"));
+        };
         let width = layout.width();
         let generator = layout.generator();
         for length in 0..=width.bits() {
