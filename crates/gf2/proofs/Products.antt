@@ -2,13 +2,13 @@
 use mathlib.Core.Path.{_≡_, refl, sym, ap, ap₂, _∙_, subst}
 use mathlib.Core.Logic.{_⊎_, inl, inr, ⊎-elim}
 use Prim.Native.Nat.{ℕ, zero, suc, _+_, _-_, _*_, _/_, _%_, _^_, _≤_, _<_}
-use native.Mathlib.Nat.{add-zero, zero-add, zero-mul, one-mul, mul-one, mul-assoc, mul-comm, mod-lt, div-eq-of-lt, div-add-mod', pow-suc, mul-zero, div-one, mod-one, not-suc-le-zero, div-eq-of-lt-le, suc-add}
+use native.Mathlib.Nat.{add-zero, zero-add, zero-mul, one-mul, mul-one, mul-assoc, mul-comm, mod-lt, div-eq-of-lt, div-add-mod', pow-suc, mul-zero, div-one, mod-one, not-suc-le-zero, div-eq-of-lt-le, suc-add, add-comm}
 use native.Mathlib.Omega.{arith}
 use lib.Arith.{bin-ind, lt-one}
 use lib.Bits.{bitXor, xor-shr, xor-mod, xor-zero-r, xor-lt, xor-self, xor-comm, xor-shifted}
 use lib.Pow.{pow-pos, pow-mono, pow-lt, pow-add, shl-shr, shr-shr, split}
 use Rattle.gf2.specs.Binary.{byBits, byBitsIn}
-use Rattle.gf2.specs.Poly.{times, Degree}
+use Rattle.gf2.specs.Poly.{times, IsProduct, Degree}
 use Rattle.gf2.proofs.Digits.{byBits-step, xor-swap, xor-shl, bit-cases, shr-suc, mod-suc}
 
 -- every law of the product comes from this equation
@@ -90,6 +90,13 @@ times-power zero g = times-one g ∙ sym (mul-one g)
 times-power (suc k) g =
     ap (λ x. times x g) (pow-suc 2 k) ∙ times-double (2 ^ k) g ∙ ap (λ x. x * 2) (times-power k g)
     ∙ mul-assoc g (2 ^ k) 2 ∙ ap (λ x. g * x) (sym (pow-suc 2 k))
+
+pub is-product : IsProduct times
+is-product = record {
+  left = times-sum;
+  right = times-sum-right;
+  powers = λ i j. times-power i (2 ^ j) ∙ sym (pow-add 2 j i) ∙ ap (λ n. 2 ^ n) (add-comm j i);
+}
 
 -- ---- degrees
 

@@ -9,6 +9,12 @@ unfoldable pub times : ℕ → ℕ → ℕ
 unfolding byBits
 times q g = byBits 0 (λ n rest. bitXor (n % 2 * g) (rest * 2)) q
 
+-- what makes it the product of polynomials: it respects sums in both factors, and x^i · x^j = x^(i + j)
+pub record IsProduct (product : ℕ → ℕ → ℕ) : Type 0 where
+  pub left : (a b c : ℕ) → product (bitXor a b) c ≡ bitXor (product a c) (product b c)
+  pub right : (a b c : ℕ) → product a (bitXor b c) ≡ bitXor (product a b) (product a c)
+  pub powers : (i j : ℕ) → product (2 ^ i) (2 ^ j) ≡ 2 ^ (i + j)
+
 -- p has degree n
 abbrev pub Degree : ℕ → ℕ → Type 0
 Degree p n = p / 2 ^ n ≡ 1

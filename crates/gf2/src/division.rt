@@ -1,6 +1,7 @@
 // Division of a polynomial by a generator.
 ghost use mathlib.Core.Path.{_≡_};
 ghost use Prim.Native.Nat.{_/_, _^_, _<_, _≤_};
+ghost use Rattle.gf2.specs.Poly.{times, IsProduct};
 ghost use Rattle.gf2.specs.Division.{Divides, OnlyPair, Additive, quotientOf, remainderOf};
 use crate::generator::Generator;
 
@@ -19,6 +20,7 @@ impl Generator {
         ensures quotient { λ r. ⌜ r .quotient ≡ quotientOf (now (self .entry)) dividend ⌝ }
         ensures remainder { λ r. ⌜ r .remainder ≡ remainderOf (now (self .entry)) dividend ⌝ }
         ensures additive { λ _. ⌜ Additive (now (self .entry)) ⌝ }
+        ensures product { λ _. ⌜ IsProduct times ⌝ }
     {
         let bits = if dividend < 1 << 32 { 32 } else { 128 };
         self.divide_bits(dividend, bits)

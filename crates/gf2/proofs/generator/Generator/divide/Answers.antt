@@ -1,5 +1,6 @@
 use mathlib.Core.Path.{subst₂, sym}
 use Rattle.gf2.specs.Division.{Divides}
+use Rattle.gf2.proofs.Products.{is-product}
 use Rattle.gf2.proofs.Quotients.{divides, only, additive}
 use Rattle.gf2.proofs.generator.Generator.divide.Needs as need
 
@@ -15,4 +16,5 @@ returns c =
       quotient = answer .quotient;
       remainder = answer .remainder;
       additive = additive g;
+      product = is-product;
     }
