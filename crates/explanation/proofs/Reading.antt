@@ -7,14 +7,13 @@ use mathlib.Core.Bool.{cond}
 use lib.Chars.{codes}
 use lib.Dec.{eqb}
 use lib.ListN.{getD, length}
-use Rattle.std.specs.declared.option.Option.{Option}
 use Rattle.std.specs.declared.option.Option.the-variants.{None, Some}
-use Rattle.std.specs.declared.result.Result.the-variants.{Ok, Err}
+use Rattle.std.specs.declared.result.Result.the-variants.{Err}
 use Rattle.std.specs.Text.{Utf8}
 use Rattle.std.proofs.shelf.Text.{utf8-from-ascii}
 use Rattle.std.proofs.shelf.Ascii.{ascii-from-all}
 use Rattle.notation.specs.Cut.{cut}
-use Rattle.layout.specs.Named.{rows, v4, NoName, HasName, IsRow}
+use Rattle.layout.specs.Named.{rows, v4, NoName, HasName}
 use Rattle.layout.specs.Prefixes.{Made}
 use Rattle.layout.specs.declared.layout.Layout.{Layout}
 use Rattle.layout.specs.declared.prefix.PrefixFault.{PrefixFault}

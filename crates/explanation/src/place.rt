@@ -1,11 +1,7 @@
 // Where the prefix of a query would stand: a place for each tread from its home tread down.
-ghost use mathlib.Core.Path.{_≡_};
-ghost use Prim.Native.Nat.{ℕ, _+_, _-_, _<_, _≤_};
-ghost use lib.ListN.{getD};
-ghost use Rattle.std.specs.Of.Vec.{vec-items, vec-len};
+ghost use Prim.Native.Nat.{_+_};
+ghost use Rattle.std.specs.Of.Vec.{vec-items};
 ghost use Rattle.std.specs.Vec.{made};
-ghost use Rattle.layout.specs.Treads.{homeTread};
-ghost use Rattle.layout.specs.Layouts.{treadsOf};
 ghost use Rattle.explanation.specs.Places.{PlaceOf, PlacesOf};
 use crate::query::Query;
 use layout::prefix::Prefix;

@@ -1,8 +1,8 @@
 // A line `LIST ADDRESS/LENGTH`, read as a query: the layout that goes by the list's name, and the prefix.
 ghost use mathlib.Core.Path.{_≡_};
 ghost use Prim.Native.Nat.{_<_, _^_};
-ghost use Rattle.std.specs.Options.{Cases, mapped};
-ghost use Rattle.layout.specs.Named.{NoName, HasName, IsRow};
+ghost use Rattle.std.specs.Options.{Cases};
+ghost use Rattle.layout.specs.Named.{NoName};
 ghost use Rattle.explanation.specs.Lines.{readAddress, readPrefix};
 ghost use Rattle.explanation.specs.Queries.{Answers, Placed, faultOf};
 use layout::layout::Layout;

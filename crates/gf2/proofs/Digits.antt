@@ -1,16 +1,15 @@
 -- The step of a recursion on binary digits, and what sums of polynomials need of `bitXor`. Assumes nothing.
-use mathlib.Core.Path.{_≡_, refl, sym, ap, ap₂, _∙_, subst}
+use mathlib.Core.Path.{_≡_, refl, sym, ap, ap₂, _∙_}
 use mathlib.Core.Logic.{_⊎_, inl, inr}
-use Prim.Native.Nat.{ℕ, zero, suc, _+_, _-_, _*_, _/_, _%_, _^_, _≤_, _<_}
-use native.Mathlib.Nat.{not-suc-le-zero, le-refl, add-zero, zero-add, zero-mul, one-mul, mul-one, mod-lt, div-eq-of-lt, div-add-mod'}
+use Prim.Native.Nat.{ℕ, zero, suc, _+_, _*_, _/_, _%_, _^_, _≤_, _<_}
+use native.Mathlib.Nat.{not-suc-le-zero, le-refl, add-zero, mod-lt}
 use native.Mathlib.Decide.{le-ind}
 use native.Mathlib.Omega.{arith}
-use lib.Arith.{half-le, bin-ind}
-use lib.Bits.{bitXor, xor-block, xor-shr, xor-mod, xor-assoc, xor-comm, xor-self, xor-zero-r, xor-lt}
+use lib.Arith.{half-le}
+use lib.Bits.{bitXor, xor-block, xor-assoc, xor-comm, xor-self, xor-zero-r}
 use lib.Pow.{pow-pos, shr-shr, mod-pow-add}
 use native.Mathlib.Numerals.{add-one, one-add}
 use Rattle.gf2.specs.Binary.{byBits, byBitsIn}
-use Rattle.gf2.specs.Poly.{Degree}
 
 module _ {A : Type 0} (base : A) (step : ℕ → A → A) where
   more : (f n : ℕ) → n ≤ f → byBitsIn base step (suc f) n ≡ byBitsIn base step f n

@@ -1,12 +1,12 @@
 -- A generator's degree and lowest exponent, from the zeros at either end of its number. Assumes nothing.
-use mathlib.Core.Path.{_≡_, refl, sym, ap, ap₂, _∙_}
-use mathlib.Core.Logic.{_⊎_, inl, inr, ⊎-elim}
+use mathlib.Core.Path.{_≡_, sym, ap, ap₂, _∙_}
+use mathlib.Core.Logic.{⊎-elim}
 use Prim.Native.Nat.{ℕ, zero, suc, _+_, _-_, _*_, _/_, _%_, _^_, _≤_, _<_}
 use native.Mathlib.Nat.{mod-one, div-one, pow-suc, div-eq-of-lt, add-zero, le-antisymm}
 use native.Mathlib.Omega.{arith}
 use lib.Arith.{digits-div, digits-mod}
 use lib.Count.{leadingZeros, trailingZeros, under, leading-top}
-use lib.Pow.{pow-pos, pow-mono, split, mod-mod-pow, shr-shr, field}
+use lib.Pow.{pow-mono, split, mod-mod-pow, shr-shr, field}
 use lib.Bits.{bitXor, xor-shr, xor-block, xor-zero-r}
 use native.Mathlib.Decide.{decLe}
 use Rattle.gf2.specs.declared.generator.Generator.{Generator}

@@ -1,12 +1,12 @@
 -- The laws of the product of polynomials. Assumes nothing.
-use mathlib.Core.Path.{_≡_, refl, sym, ap, ap₂, _∙_, subst}
+use mathlib.Core.Path.{_≡_, refl, sym, ap, ap₂, _∙_}
 use mathlib.Core.Logic.{_⊎_, inl, inr, ⊎-elim}
-use Prim.Native.Nat.{ℕ, zero, suc, _+_, _-_, _*_, _/_, _%_, _^_, _≤_, _<_}
-use native.Mathlib.Nat.{add-zero, zero-add, zero-mul, one-mul, mul-one, mul-assoc, mul-comm, mod-lt, div-eq-of-lt, div-add-mod', pow-suc, mul-zero, div-one, mod-one, not-suc-le-zero, div-eq-of-lt-le, suc-add, add-comm}
+use Prim.Native.Nat.{ℕ, zero, suc, _+_, _*_, _/_, _%_, _^_, _≤_, _<_}
+use native.Mathlib.Nat.{zero-add, zero-mul, one-mul, mul-one, mul-assoc, mul-comm, mod-lt, div-eq-of-lt, div-add-mod', pow-suc, div-one, mod-one, not-suc-le-zero, div-eq-of-lt-le, suc-add, add-comm}
 use native.Mathlib.Omega.{arith}
-use lib.Arith.{bin-ind, lt-one}
-use lib.Bits.{bitXor, xor-shr, xor-mod, xor-zero-r, xor-lt, xor-self, xor-comm, xor-shifted}
-use lib.Pow.{pow-pos, pow-mono, pow-lt, pow-add, shl-shr, shr-shr, split}
+use lib.Arith.{bin-ind}
+use lib.Bits.{bitXor, xor-shr, xor-mod, xor-zero-r, xor-self, xor-comm, xor-shifted}
+use lib.Pow.{pow-pos, pow-mono, pow-add, split}
 use Rattle.gf2.specs.Binary.{byBits, byBitsIn}
 use Rattle.gf2.specs.Poly.{times, IsProduct, Degree}
 use Rattle.gf2.proofs.Digits.{byBits-step, xor-swap, xor-shl, bit-cases, shr-suc, mod-suc}

@@ -1,18 +1,17 @@
 -- Division by a generator: its pair is a division, there is no other, and what follows from that. Assumes nothing.
-use mathlib.Core.Path.{_≡_, refl, sym, ap, ap₂, _∙_, subst}
-use mathlib.Core.Logic.{_⊎_, inl, inr, ⊎-elim}
-use Prim.Native.Nat.{ℕ, zero, suc, _+_, _-_, _*_, _/_, _%_, _^_, _≤_, _<_}
-use native.Mathlib.Nat.{add-zero, zero-add, zero-mul, one-mul, mul-one, mod-lt, div-eq-of-lt, div-add-mod', zero-div, pow-suc, not-suc-le-zero, div-lt-iff-lt-mul}
+use mathlib.Core.Path.{_≡_, refl, sym, ap, ap₂, _∙_}
+use Prim.Native.Nat.{ℕ, zero, suc, _+_, _*_, _/_, _%_, _^_, _<_}
+use native.Mathlib.Nat.{zero-mul, one-mul, div-eq-of-lt, div-add-mod', zero-div, pow-suc, div-lt-iff-lt-mul}
 use native.Mathlib.Decide.{decLt}
 use native.Mathlib.Omega.{arith}
 use lib.Arith.{bin-ind}
-use lib.Bits.{bitXor, xor-shr, xor-assoc, xor-comm, xor-zero-r, xor-lt, xor-self, xor-block, xor-shifted}
-use lib.Pow.{pow-pos, pow-mono, pow-lt}
+use lib.Bits.{bitXor, xor-shr, xor-assoc, xor-comm, xor-zero-r, xor-lt, xor-self, xor-shifted}
+use lib.Pow.{pow-pos, pow-mono}
 use Rattle.gf2.specs.Binary.{byBits, byBitsIn}
 use Rattle.gf2.specs.Poly.{times, Degree}
 use Rattle.gf2.specs.Division.{Divides, remainderOf, quotientOf, OnlyPair, Additive}
 use Rattle.gf2.specs.declared.generator.Generator.{Generator}
-use Rattle.gf2.proofs.Digits.{byBits-step, xor-swap, xor-shl, bit-cases, xor-zero, xor-cross}
+use Rattle.gf2.proofs.Digits.{byBits-step, xor-swap, xor-shl, xor-zero, xor-cross}
 use Rattle.gf2.proofs.Products.{times-step, times-zero, times-sum, has-degree, degree-times, degree-ge, degree-lt, degree-by, below-of-shr}
 
 -- one more coefficient of p brought down to the remainder of the others

@@ -1,16 +1,15 @@
 -- Admission is exact: under an admitted tread no two prefixes are confused, under any other each prefix is. Assumes nothing.
-use mathlib.Core.Path.{_≡_, refl, sym, ap, ap₂, _∙_, subst}
-use mathlib.Core.Bool.{Bool, true, false, _&&_, _||_}
-use mathlib.Core.Logic.{_≢_, _⊎_, inl, inr, ⊎-elim}
-use Prim.Native.Nat.{ℕ, zero, suc, _+_, _-_, _*_, _/_, _%_, _^_, _≤_, _<_}
+use mathlib.Core.Path.{_≡_, sym, ap, ap₂, _∙_, subst}
+use mathlib.Core.Bool.{true, false, _||_}
+use mathlib.Core.Logic.{_⊎_, inl, inr, ⊎-elim}
+use Prim.Native.Nat.{ℕ, suc, _+_, _-_, _*_, _/_, _%_, _^_, _≤_, _<_}
 use native.Mathlib.Nat.{div-eq-of-lt, zero-mul, mul-assoc, zero-mod, one-mul, mul-le-mul-right, mod-eq-of-lt}
 use native.Mathlib.Decide.{decLe}
 use native.Mathlib.Omega.{arith}
-use lib.Bits.{bitXor, xor-lt, xor-zero-r, xor-self, xor-assoc}
-use lib.Dec.{leb, T}
+use lib.Bits.{bitXor, xor-lt, xor-zero-r, xor-self}
+use lib.Dec.{leb}
 use lib.Pow.{pow-pos, pow-mono, pow-lt, pow-add, shl-lt}
 use Rattle.std.proofs.shelf.Tests.{leb-true, leb-false, and-parts, and-cases, or-cases, or-parts}
-use Rattle.gf2.specs.Poly.{times, Degree}
 use Rattle.gf2.specs.Division.{Divides, quotientOf, remainderOf}
 use Rattle.gf2.specs.declared.generator.Generator.{Generator}
 use Rattle.gf2.proofs.Digits.{xor-cross, xor-cancel, xor-swap, xor-shl, xor-zero}
@@ -18,7 +17,7 @@ use Rattle.gf2.proofs.Products.{times-power, degree-lt, degree-ge}
 use Rattle.gf2.proofs.Quotients.{divides, pair, additive, quotient-lt, remainder-zero}
 use Rattle.gf2.proofs.Exponents.{plus-one, plus-one-degree}
 use Rattle.layout.specs.Addresses.{rounded, IsPrefix}
-use Rattle.layout.specs.Admission.{colony, digest, admitted, Alike, ToldApart, Confused, Clash, Exact, confusedWith}
+use Rattle.layout.specs.Admission.{colony, digest, admitted, Alike, ToldApart, Confused, Exact, confusedWith}
 use Rattle.layout.proofs.Rounding.{rounded-sum, multiple-sum, multiple-of}
 use Rattle.layout.proofs.Kernel.{near, far, short}
 

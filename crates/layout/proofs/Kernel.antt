@@ -1,20 +1,18 @@
 -- What a sum of two confused prefixes is: the polynomials with colony 0 and equal quotient and remainder. Assumes nothing.
-use mathlib.Core.Path.{_≡_, refl, sym, ap, ap₂, _∙_, subst}
-use mathlib.Core.Logic.{_≢_, _⊎_, inl, inr, ⊎-elim}
+use mathlib.Core.Path.{_≡_, refl, sym, ap, _∙_}
 use Prim.Native.Nat.{ℕ, zero, suc, _+_, _-_, _*_, _/_, _%_, _^_, _≤_, _<_}
-use native.Mathlib.Nat.{mod-lt, mod-one, mul-mod-left, div-eq-of-lt, zero-div}
-use native.Mathlib.Decide.{decLe, decLt}
+use native.Mathlib.Nat.{mod-lt, mod-one, mul-mod-left, zero-div}
+use native.Mathlib.Decide.{decLe}
 use native.Mathlib.Omega.{arith}
-use lib.Bits.{bitXor, xor-lt, xor-zero-r, xor-self, xor-comm, xor-shifted}
-use lib.Pow.{pow-pos, pow-mono, pow-lt, split, shl-shr, mod-pow-add}
+use lib.Bits.{bitXor, xor-lt, xor-zero-r, xor-comm, xor-shifted}
+use lib.Pow.{pow-pos, pow-mono, split, shl-shr, mod-pow-add}
 use Rattle.gf2.specs.Poly.{times, Degree}
-use Rattle.gf2.specs.Division.{Divides, quotientOf, remainderOf}
+use Rattle.gf2.specs.Division.{quotientOf, remainderOf}
 use Rattle.gf2.specs.declared.generator.Generator.{Generator}
-use Rattle.gf2.proofs.Digits.{xor-cross, xor-cancel}
+use Rattle.gf2.proofs.Digits.{xor-cancel}
 use Rattle.gf2.proofs.Products.{times-zero, times-sum-right, times-by-one, times-shl, degree-times, degree-ge, degree-lt, has-degree, divides-out}
 use Rattle.gf2.proofs.Quotients.{divides, pair, additive, quotient-lt, pow-below}
 use Rattle.gf2.proofs.Exponents.{constant, plus-one, plus-one-degree}
-use Rattle.layout.specs.Addresses.{rounded}
 use Rattle.layout.proofs.Rounding.{multiple-below}
 
 module _ (g : Generator) where

@@ -1,21 +1,20 @@
 -- Tread lists written out: their rules by tests that antt computes, and the worked figures. Assumes nothing.
-use mathlib.Core.Path.{_≡_, refl, sym, ap, ap₂, _∙_}
+use mathlib.Core.Path.{_≡_, refl, ap, ap₂, _∙_}
 use mathlib.Core.Bool.{Bool, true, false, _&&_, _||_}
 use mathlib.Core.List.{List, [], _∷_}
 use Prim.Native.Nat.{ℕ, zero, suc, _+_, _-_, _≤_, _<_}
 use native.Mathlib.Omega.{arith}
 use native.Mathlib.Decide.{decLt}
-use lib.Dec.{leb, ltb, eqb, lit≤}
+use lib.Dec.{leb, lit≤}
 use lib.ListN.{length, getD}
 use Rattle.std.proofs.shelf.Tests.{leb-true, and-parts}
 use Rattle.gf2.specs.Binary.{byBits, byBitsIn}
 use Rattle.gf2.specs.Division.{quotientOf, remainderOf}
 use Rattle.gf2.specs.declared.generator.Generator.{Generator}
 use Rattle.gf2.proofs.Exponents.{same-degree, same-lowest}
-use Rattle.layout.specs.Admission.{admitted}
-use Rattle.layout.specs.Treads.{Lawful, homeTread, settled, AllSettled, FirstUnsettled}
+use Rattle.layout.specs.Treads.{Lawful, homeTread, admittedAtHome, AllAdmitted, FirstUnadmitted}
 use Rattle.layout.specs.Named.{Row, rows, v4}
-use Rattle.layout.specs.Figures.{g1100D, g11D, Divided, From, Passes, RefusedAt, WorkedFigures}
+use Rattle.layout.specs.Figures.{g1100D, g11D, WorkedFigures}
 
 -- a test of every number below n
 abbrev below : ℕ → (ℕ → Bool) → Bool
@@ -40,19 +39,19 @@ lawful W ts n len few begins rises within = record {
   within = λ i l. leb-true (getD ts i 0) W (below-each (suc n) (λ i. leb (getD ts i 0) W) within i (omega arith));
 }
 
-pub all-settled : (W : ℕ) (g : Generator) (ts : List ℕ) → below (suc W) (settled W g ts) ≡ true → AllSettled W g ts
-all-settled W g ts h w l = below-each (suc W) (settled W g ts) h w (omega arith)
+pub all-admitted : (W : ℕ) (g : Generator) (ts : List ℕ) → below (suc W) (admittedAtHome W g ts) ≡ true → AllAdmitted W g ts
+all-admitted W g ts h w l = below-each (suc W) (admittedAtHome W g ts) h w (omega arith)
 
-first-unsettled : (W : ℕ) (g : Generator) (ts : List ℕ) (w : ℕ) → w ≤ W → settled W g ts w ≡ false → below w (settled W g ts) ≡ true → FirstUnsettled W g ts w
-first-unsettled W g ts w le no-home before = record {
+first-unadmitted : (W : ℕ) (g : Generator) (ts : List ℕ) (w : ℕ) → w ≤ W → admittedAtHome W g ts w ≡ false → below w (admittedAtHome W g ts) ≡ true → FirstUnadmitted W g ts w
+first-unadmitted W g ts w le no-home before = record {
   within = le;
-  unsettled = no-home;
-  before = λ v l. below-each w (settled W g ts) before v l;
+  refused = no-home;
+  before = λ v l. below-each w (admittedAtHome W g ts) before v l;
 }
 
 -- admission asks for a generator's exponents alone, so for its number alone
-pub settled-same : (W : ℕ) (g h : Generator) → g .poly ≡ h .poly → (ts : List ℕ) (w : ℕ) → settled W g ts w ≡ settled W h ts w
-settled-same W g h e ts w =
+pub same-at-home : (W : ℕ) (g h : Generator) → g .poly ≡ h .poly → (ts : List ℕ) (w : ℕ) → admittedAtHome W g ts w ≡ admittedAtHome W h ts w
+same-at-home W g h e ts w =
     let l = homeTread ts w in
     ap₂ (λ d t. leb l w && ((leb (W - l) d || leb (d + t) (W - w)) || leb (w - l) (d - t))) (same-degree g h e) (same-lowest g h e)
 
@@ -71,9 +70,9 @@ worked-figures = record {
   wide-longest = refl;
   wide-too-long = refl;
   wide = record { at = refl; not-at = refl };
-  three-treads = record { lawful = lawful 32 (0 ∷ 15 ∷ 16 ∷ []) 2 refl (lit≤ tt) refl refl refl; admits = all-settled 32 g1100D (0 ∷ 15 ∷ 16 ∷ []) refl };
-  two-treads = record { lawful = lawful 32 (0 ∷ 16 ∷ []) 1 refl (lit≤ tt) refl refl refl; first = first-unsettled 32 g1100D (0 ∷ 16 ∷ []) 15 (lit≤ tt) refl refl };
-  small-without-20 = record { lawful = lawful 32 (0 ∷ 8 ∷ 16 ∷ 24 ∷ []) 3 refl (lit≤ tt) refl refl refl; first = first-unsettled 32 g11D (0 ∷ 8 ∷ 16 ∷ 24 ∷ []) 23 (lit≤ tt) refl refl };
+  three-treads = record { lawful = lawful 32 (0 ∷ 15 ∷ 16 ∷ []) 2 refl (lit≤ tt) refl refl refl; admits = all-admitted 32 g1100D (0 ∷ 15 ∷ 16 ∷ []) refl };
+  two-treads = record { lawful = lawful 32 (0 ∷ 16 ∷ []) 1 refl (lit≤ tt) refl refl refl; first = first-unadmitted 32 g1100D (0 ∷ 16 ∷ []) 15 (lit≤ tt) refl refl };
+  small-without-20 = record { lawful = lawful 32 (0 ∷ 8 ∷ 16 ∷ 24 ∷ []) 3 refl (lit≤ tt) refl refl refl; first = first-unadmitted 32 g11D (0 ∷ 8 ∷ 16 ∷ 24 ∷ []) 23 (lit≤ tt) refl refl };
 }
 
 -- every row of the named lists passes the check
@@ -81,25 +80,25 @@ pub record Good (row : Row) : Type 0 where
   pub generator : Generator
   pub poly-is : generator .poly ≡ row .generator
   pub lawful : Lawful (row .bits) (row .treads)
-  pub admits : AllSettled (row .bits) generator (row .treads)
+  pub admits : AllAdmitted (row .bits) generator (row .treads)
 
 pub good : (i : ℕ) → i < 3 → Good (getD rows i v4)
 good zero h = let r = getD rows 0 v4 in record {
   generator = g1100D;
   poly-is = refl;
   lawful = lawful 32 (r .treads) 7 refl (lit≤ tt) refl refl refl;
-  admits = all-settled 32 g1100D (r .treads) refl;
+  admits = all-admitted 32 g1100D (r .treads) refl;
 }
 good (suc zero) h = let r = getD rows 1 v4 in record {
   generator = g11D;
   poly-is = refl;
   lawful = lawful 32 (r .treads) 4 refl (lit≤ tt) refl refl refl;
-  admits = all-settled 32 g11D (r .treads) refl;
+  admits = all-admitted 32 g11D (r .treads) refl;
 }
 good (suc (suc zero)) h = let r = getD rows 2 v4 in record {
   generator = g1100D;
   poly-is = refl;
   lawful = lawful 128 (r .treads) 8 refl (lit≤ tt) refl refl refl;
-  admits = all-settled 128 g1100D (r .treads) refl;
+  admits = all-admitted 128 g1100D (r .treads) refl;
 }
 good (suc (suc (suc i))) h = absurd (omega arith)

@@ -2,6 +2,10 @@
 use Prim.Native.Nat.{ℕ, _-_, _*_, _/_, _%_, _^_, _<_, _≤_}
 use mathlib.Core.Path.{_≡_}
 
+-- a width of addresses: a multiple of 8 from 32 to 128
+abbrev pub IsWidth : ℕ → Type 0
+IsWidth W = (32 ≤ W) × (W ≤ 128) × (W % 8 ≡ 0)
+
 -- the address with every bit after its first l cleared
 abbrev pub rounded : ℕ → ℕ → ℕ → ℕ
 rounded W l a = a / 2 ^ (W - l) * 2 ^ (W - l)

@@ -7,7 +7,7 @@ use lib.Dec.{lit≤, lit<}
 use Rattle.gf2.specs.Division.{quotientOf, remainderOf}
 use Rattle.gf2.specs.declared.generator.Generator.{Generator}
 use Rattle.layout.specs.Admission.{digest, admitted}
-use Rattle.layout.specs.Treads.{Lawful, AllSettled, FirstUnsettled}
+use Rattle.layout.specs.Treads.{Lawful, AllAdmitted, FirstUnadmitted}
 
 -- x^16 + x^12 + x^3 + x^2 + 1, of the lists v4 and v6
 abbrev pub g1100D : Generator
@@ -52,12 +52,12 @@ pub record From (W w l m : ℕ) : Type 0 where
 -- the check of IPv4 treads passes
 pub record Passes (g : Generator) (ts : List ℕ) : Type 0 where
   pub lawful : Lawful 32 ts
-  pub admits : AllSettled 32 g ts
+  pub admits : AllAdmitted 32 g ts
 
 -- or is refused by question 3, at the length w
 pub record RefusedAt (g : Generator) (ts : List ℕ) (w : ℕ) : Type 0 where
   pub lawful : Lawful 32 ts
-  pub first : FirstUnsettled 32 g ts w
+  pub first : FirstUnadmitted 32 g ts w
 
 pub record WorkedFigures : Type 0 where
   -- 0.1.0.0, 10.0.0.0 and 10.68.3.0

@@ -7,7 +7,7 @@ use Rattle.std.specs.declared.result.Result.{Result}
 use Rattle.std.specs.declared.result.Result.the-variants.{Ok, Err}
 use Rattle.gf2.specs.Poly.{IsGenerator}
 use Rattle.gf2.specs.declared.generator.Generator.{Generator}
-use Rattle.layout.specs.Treads.{Lawful, AllSettled, FirstUnsettled}
+use Rattle.layout.specs.Treads.{Lawful, AllAdmitted, FirstUnadmitted}
 use Rattle.layout.specs.declared.width.Width.{Width}
 use Rattle.layout.specs.declared.layout.Layout.{Layout}
 use Rattle.layout.specs.declared.layout.LayoutRefusal.{LayoutRefusal}
@@ -28,17 +28,17 @@ pub record Passed (W : Width) (poly : ℕ) (ts : List ℕ) (layout : Layout) : T
   pub generator : layout .generator .poly ≡ poly
   pub treads : treadsOf layout ≡ ts
   pub lawful : Lawful (W .bits) ts
-  pub admits : AllSettled (W .bits) (layout .generator) ts
+  pub admits : AllAdmitted (W .bits) (layout .generator) ts
 
--- a lawful generator and tread list that leave the length w without a home
-pub record Unsettled (W : Width) (poly : ℕ) (ts : List ℕ) (w : ℕ) : Type 0 where
+-- a lawful generator and tread list with the shortest length w that is not admitted at its home tread
+pub record NotAdmitted (W : Width) (poly : ℕ) (ts : List ℕ) (w : ℕ) : Type 0 where
   pub generator : Generator
   pub poly-is : generator .poly ≡ poly
   pub lawful : Lawful (W .bits) ts
-  pub first : FirstUnsettled (W .bits) generator ts w
+  pub first : FirstUnadmitted (W .bits) generator ts w
 
 abbrev pub Verdict : Width → ℕ → List ℕ → Result Layout LayoutRefusal → Type 0
 Verdict W poly ts (Ok layout) = Passed W poly ts layout
 Verdict W poly ts (Err NotAGenerator) = IsGenerator poly → ⊥
 Verdict W poly ts (Err UnlawfulTreads) = IsGenerator poly × (Lawful (W .bits) ts → ⊥)
-Verdict W poly ts (Err (Unadmitted w)) = Unsettled W poly ts w
+Verdict W poly ts (Err (Unadmitted w)) = NotAdmitted W poly ts w

@@ -6,7 +6,7 @@ use Rattle.std.specs.declared.result.Result.the-variants.{Ok, Err}
 use Rattle.std.specs.declared.option.Option.{Option}
 use Rattle.std.specs.declared.option.Option.the-variants.{Some, None}
 use Rattle.gf2.specs.declared.generator.Generator.{Generator}
-use Rattle.layout.specs.Addresses.{IsPrefix}
+use Rattle.layout.specs.Addresses.{IsPrefix, Covers}
 use Rattle.layout.specs.Admission.{Alike, Confused, confusedWith}
 use Rattle.layout.specs.declared.width.Width.{Width}
 use Rattle.layout.specs.declared.prefix.Prefix.{Prefix}
@@ -19,6 +19,10 @@ Made W P w (Ok p) = (p .width ≡ W) × (p .address ≡ P) × (p .length ≡ w)
 Made W P w (Err AddressBeyondWidth) = 2 ^ W .bits ≤ P
 Made W P w (Err LengthBeyondWidth) = (P < 2 ^ W .bits) × (W .bits < w)
 Made W P w (Err BitsAfterLength) = (P < 2 ^ W .bits) × (w ≤ W .bits) × (P % 2 ^ (W .bits - w) ≡ 0 → ⊥)
+
+-- the prefix covers the address a
+abbrev pub Covered : Prefix → ℕ → Type 0
+Covered p a = Covers (p .width .bits) (p .address) (p .length) a
 
 -- the prefix q that is confused with p under the tread l, or none
 abbrev pub Other : Prefix → Generator → ℕ → Option Prefix → Type 0

@@ -23,14 +23,14 @@ homeTread [] w = 0
 homeTread (l ∷ ls) w = cond (leb l w) (max l (homeTread ls w)) (homeTread ls w)
 
 -- the length w is admitted at its home tread
-abbrev pub settled : ℕ → Generator → List ℕ → ℕ → Bool
-settled W g ts w = admitted W g w (homeTread ts w)
+abbrev pub admittedAtHome : ℕ → Generator → List ℕ → ℕ → Bool
+admittedAtHome W g ts w = admitted W g w (homeTread ts w)
 
-abbrev pub AllSettled : ℕ → Generator → List ℕ → Type 0
-AllSettled W g ts = (w : ℕ) → w ≤ W → settled W g ts w ≡ true
+abbrev pub AllAdmitted : ℕ → Generator → List ℕ → Type 0
+AllAdmitted W g ts = (w : ℕ) → w ≤ W → admittedAtHome W g ts w ≡ true
 
 -- w is the shortest length that is not
-pub record FirstUnsettled (W : ℕ) (g : Generator) (ts : List ℕ) (w : ℕ) : Type 0 where
+pub record FirstUnadmitted (W : ℕ) (g : Generator) (ts : List ℕ) (w : ℕ) : Type 0 where
   pub within : w ≤ W
-  pub unsettled : settled W g ts w ≡ false
-  pub before : (v : ℕ) → v < w → settled W g ts v ≡ true
+  pub refused : admittedAtHome W g ts w ≡ false
+  pub before : (v : ℕ) → v < w → admittedAtHome W g ts v ≡ true

@@ -3,7 +3,7 @@ ghost use mathlib.Core.Path.{_≡_};
 ghost use mathlib.Core.Bool.{true};
 ghost use Prim.Native.Nat.{ℕ, suc, _<_, _≤_};
 ghost use lib.ListN.{length, getD, take};
-ghost use Rattle.layout.specs.Treads.{settled};
+ghost use Rattle.layout.specs.Treads.{admittedAtHome};
 use crate::treads::MAX_TREADS;
 use crate::width::Width;
 use gf2::generator::Generator;
@@ -23,7 +23,7 @@ pub struct Layout {
     ghost begins: { getD (take count lengths) 0 0 ≡ 0 },
     ghost rises: { (i : ℕ) → suc i < length (take count lengths) → getD (take count lengths) i 0 < getD (take count lengths) (suc i) 0 },
     ghost within: { (i : ℕ) → i < length (take count lengths) → getD (take count lengths) i 0 ≤ width .bits },
-    ghost admits: { (w : ℕ) → w ≤ width .bits → settled (width .bits) generator (take count lengths) w ≡ true },
+    ghost admits: { (w : ℕ) → w ≤ width .bits → admittedAtHome (width .bits) generator (take count lengths) w ≡ true },
 }
 
 // The question of the check that was answered 'no'.

@@ -1,11 +1,11 @@
 // Tread lists and home treads, over plain slices. A tread is a prefix length at which routes may stand.
 ghost use mathlib.Core.Path.{_≡_};
 ghost use mathlib.Core.Bool.{true, false};
-ghost use Prim.Native.Nat.{ℕ, _<_, _≤_};
+ghost use Prim.Native.Nat.{_<_, _≤_};
 ghost use lib.ListN.{length as count, getD, take};
 ghost use Rattle.std.specs.Options.{Cases};
 ghost use Rattle.std.specs.Orderings.{When};
-ghost use Rattle.layout.specs.Treads.{Lawful, homeTread, AllSettled, FirstUnsettled};
+ghost use Rattle.layout.specs.Treads.{Lawful, homeTread, AllAdmitted, FirstUnadmitted};
 use crate::width::Width;
 use gf2::generator::Generator;
 
@@ -44,9 +44,9 @@ pub(crate) fn home_number(bits: u8, treads: &[u8], length: u8) -> usize
 }
 
 // The shortest length from 0 to the width that is not admitted at its home tread.
-pub(crate) fn first_unsettled(width: Width, generator: &Generator, treads: &[u8]) -> Option<u8>
+pub(crate) fn first_unadmitted(width: Width, generator: &Generator, treads: &[u8]) -> Option<u8>
     requires { ⌜ Lawful (width .bits) (now treads) ⌝ }
-    ensures { λ r. ⌜ Cases r (AllSettled (width .bits) (now (generator .entry)) (now (treads .entry))) (λ w. FirstUnsettled (width .bits) (now (generator .entry)) (now (treads .entry)) w) ⌝ }
+    ensures { λ r. ⌜ Cases r (AllAdmitted (width .bits) (now (generator .entry)) (now (treads .entry))) (λ w. FirstUnadmitted (width .bits) (now (generator .entry)) (now (treads .entry)) w) ⌝ }
 {
     for length in 0..=width.bits() {
         let home = home_number(width.bits(), treads, length);

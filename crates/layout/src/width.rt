@@ -1,8 +1,8 @@
 // The width of the addresses of one family, in bits: a multiple of 8 from 32 to 128.
 ghost use mathlib.Core.Path.{_≡_};
-ghost use Prim.Native.Nat.{_-_, _*_, _/_, _%_, _^_, _≤_};
+ghost use Prim.Native.Nat.{_%_, _≤_};
 ghost use Rattle.std.specs.Options.{Cases};
-ghost use Rattle.layout.specs.Addresses.{rounded};
+ghost use Rattle.layout.specs.Addresses.{IsWidth, rounded};
 
 #[derive(Clone, Copy)]
 pub struct Width {
@@ -19,7 +19,7 @@ impl Width {
 
     // The width of that many bits, or `None` where there is none.
     pub fn new(bits: u8) -> Option<Width>
-        ensures { λ r. ⌜ Cases r ((32 ≤ bits) × (bits ≤ 128) × (bits % 8 ≡ 0) → ⊥) (λ w. w .bits ≡ bits) ⌝ }
+        ensures { λ r. ⌜ Cases r (IsWidth bits → ⊥) (λ w. w .bits ≡ bits) ⌝ }
     {
         if bits < 32 || bits > 128 || bits % 8 != 0 {
             return None;

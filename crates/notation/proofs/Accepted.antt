@@ -2,27 +2,26 @@
 use mathlib.Core.Path.{_≡_, refl, sym, ap, subst, _∙_}
 use mathlib.Core.Bool.{Bool, true, false, cond, _&&_}
 use mathlib.Core.List.{List, [], _∷_, _++_, append-nil, append-assoc}
-use mathlib.Core.Logic.{_⊎_, inl, inr}
-use Prim.Native.Nat.{ℕ, _+_, _-_, _/_, _%_, _^_, _≤_, _<_}
+use mathlib.Core.Logic.{inl, inr}
+use Prim.Native.Nat.{ℕ, _+_, _/_, _%_, _^_}
 use native.Mathlib.Omega.{arith}
 use lib.Dec.{eqb, leb, ltb}
-use lib.ListN.{length, replicate}
+use lib.ListN.{length}
 use Rattle.std.proofs.shelf.Tests.{and-parts, eqb-true, leb-true, ltb-true}
 use Rattle.std.specs.declared.option.Option.{Option}
 use Rattle.std.specs.declared.option.Option.the-variants.{None, Some}
-use Rattle.std.specs.Options.{Cases, mapped, orOther, whenTrue}
+use Rattle.std.specs.Options.{Cases, mapped, orOther}
 use Rattle.std.specs.Reads.{value}
-use Rattle.std.specs.shelf.Digits.{number}
 use Rattle.notation.specs.Chain.{andThen}
 use Rattle.notation.specs.Cut.{cut}
 use Rattle.notation.specs.Digits.{areDigits}
 use Rattle.notation.specs.Groups.{colon, readGroup, readLast, readAfter, readGroups}
 use Rattle.notation.specs.Ipv4.{read4}
-use Rattle.notation.specs.Ipv6.{whole, around, readSide, readSides, read6}
-use Rattle.notation.specs.Writings.{WritesGroup, WritesDotted, WritesGroups, WritesSide, Whole, Shortened, Writes}
+use Rattle.notation.specs.Ipv6.{whole, readSide, readSides, read6}
+use Rattle.notation.specs.Writings.{WritesGroup, WritesGroups, WritesSide, Writes}
 use Rattle.notation.proofs.Cuts.{cut-joins}
 use Rattle.notation.proofs.Dotted.{dotted-only}
-use Rattle.notation.proofs.Options.{none≢some, some-inj, cond-none, whenTrue-some, andThen-some, mapped-some, exactly-related}
+use Rattle.notation.proofs.Options.{some-inj, cond-none, whenTrue-some, andThen-some, mapped-some, exactly-related}
 use Rattle.notation.proofs.Reading.{writing-read}
 use Rattle.notation.proofs.Values.{digits-from}
 

@@ -1,7 +1,7 @@
 -- `readDecimal` reads exactly what `{}` writes.
-use mathlib.Core.Path.{_≡_, refl, sym, ap, subst, _∙_}
-use mathlib.Core.Bool.{Bool, true, false, cond, _&&_}
-use mathlib.Core.List.{List, [], _∷_}
+use mathlib.Core.Path.{_≡_, sym, ap, subst, _∙_}
+use mathlib.Core.Bool.{false, _&&_}
+use mathlib.Core.List.{List}
 use mathlib.Core.Logic.{_⊎_, inl, inr}
 use Prim.Native.Nat.{ℕ, _^_, _≤_, _<_}
 use native.Mathlib.Omega.{arith}
@@ -9,7 +9,7 @@ use lib.Dec.{eqb, ltb, leb}
 use lib.ListN.{length, getD}
 use Rattle.std.proofs.shelf.Decimals.{decimal-reads, decimal-digit, decimal-value, first-decimal}
 use Rattle.std.proofs.shelf.Numerals.{numerals-by-value, tells-digits}
-use Rattle.std.proofs.shelf.Tests.{and-parts, and-left, and-right, and-cases, ne-eqb, le-ltb, ltb-true, ltb-false, leb-true, eqb-false, eq-eqb, cases-lt, cond-false, false≢true}
+use Rattle.std.proofs.shelf.Tests.{and-parts, and-left, and-right, and-cases, ne-eqb, le-ltb, ltb-true, ltb-false, leb-true, eqb-false, cases-lt, cond-false}
 use Rattle.std.specs.declared.option.Option.{Option}
 use Rattle.std.specs.declared.option.Option.the-variants.{None, Some}
 use Rattle.std.specs.Options.{Cases}

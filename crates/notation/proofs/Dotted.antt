@@ -7,7 +7,7 @@ use native.Mathlib.Omega.{arith}
 use lib.ListN.{length, length-append}
 use Rattle.std.proofs.shelf.Decimals.{decimal-reads, decimal-some}
 use Rattle.std.specs.declared.option.Option.{Option}
-use Rattle.std.specs.declared.option.Option.the-variants.{None, Some}
+use Rattle.std.specs.declared.option.Option.the-variants.{Some}
 use Rattle.std.specs.Options.{Cases, mapped}
 use Rattle.std.specs.Text.{digitValue}
 use Rattle.std.specs.Written.{decimal}
@@ -16,7 +16,7 @@ use Rattle.notation.specs.Cut.{cut}
 use Rattle.notation.specs.Ipv4.{dot, dotted, read4, readOctet, readOctetAndDot}
 use Rattle.notation.proofs.Cuts.{Without, without-append, without-digits, cut-first, cut-joins}
 use Rattle.notation.proofs.Decimals.{decimal-back, decimal-only}
-use Rattle.notation.proofs.Options.{andThen-some, mapped-some, some-inj, exactly}
+use Rattle.notation.proofs.Options.{andThen-some, mapped-some, exactly}
 
 octet-back : (n : ℕ) → n ≤ 255 → readOctet (decimal n) ≡ Some n
 octet-back n h = decimal-back 255 n (decimal n) (omega arith) h refl

@@ -1,19 +1,19 @@
 -- How `readGroups` and `total` go on from piece to piece.
-use mathlib.Core.Path.{_≡_, refl, sym, ap, subst, _∙_}
+use mathlib.Core.Path.{_≡_, refl, sym, ap, _∙_}
 use mathlib.Core.Bool.{Bool, true, false, cond, _&&_}
 use mathlib.Core.List.{List, [], _∷_, _++_, append-nil, append-assoc}
 use mathlib.Core.Logic.{_⊎_, inl, inr}
 use Prim.Native.Nat.{ℕ, suc, _+_, _*_, _^_, _≤_, _<_}
 use native.Mathlib.Omega.{arith}
 use lib.Dec.{eqb, leb}
-use lib.ListN.{length, drop}
-use Rattle.std.proofs.shelf.Tests.{cases-lt, le-leb, lt-leb, cases-bool}
+use lib.ListN.{length}
+use Rattle.std.proofs.shelf.Tests.{cases-lt, le-leb, lt-leb}
 use Rattle.std.specs.declared.option.Option.{Option}
 use Rattle.std.specs.declared.option.Option.the-variants.{None, Some}
 use Rattle.std.specs.Options.{mapped, whenTrue}
 use Rattle.std.specs.shelf.Digits.{numberAfter}
 use Rattle.notation.specs.Chain.{andThen}
-use Rattle.notation.specs.Cut.{begins, cut}
+use Rattle.notation.specs.Cut.{cut}
 use Rattle.notation.specs.Groups.{colon, readGroup, readLast, readAfter, readGroups, total}
 use Rattle.notation.proofs.Options.{none≢some, some-inj}
 

@@ -2,8 +2,8 @@
 use mathlib.Core.Path.{_≡_, refl, sym, ap, subst, _∙_}
 use mathlib.Core.Bool.{Bool, true, false, cond}
 use mathlib.Core.List.{List, [], _∷_, _++_, append-nil, append-assoc}
-use mathlib.Core.Logic.{_⊎_, inl, inr}
-use Prim.Native.Nat.{ℕ, suc, _+_, _-_, _/_, _%_, _^_, _≤_, _<_}
+use mathlib.Core.Logic.{inl, inr}
+use Prim.Native.Nat.{ℕ, _+_, _-_, _/_, _%_, _^_, _≤_, _<_}
 use native.Mathlib.Nat.{pow-le-pow-right}
 use native.Mathlib.Omega.{arith}
 use lib.Dec.{eqb}
@@ -13,7 +13,6 @@ use Rattle.std.proofs.shelf.Tests.{and-left, ne-eqb, eq-eqb, le-leb, lt-leb, co
 use Rattle.std.specs.declared.option.Option.{Option}
 use Rattle.std.specs.declared.option.Option.the-variants.{None, Some}
 use Rattle.std.specs.Options.{mapped, orOther, whenTrue}
-use Rattle.std.specs.Reads.{value}
 use Rattle.std.specs.shelf.Digits.{number}
 use Rattle.notation.specs.Chain.{andThen}
 use Rattle.notation.specs.Cut.{begins, cut}
@@ -21,7 +20,7 @@ use Rattle.notation.specs.Digits.{readDigits}
 use Rattle.notation.specs.Groups.{colon, readGroup, readLast, readGroups}
 use Rattle.notation.specs.Ipv4.{dotted, read4}
 use Rattle.notation.specs.Ipv6.{whole, around, readSide, readSides, read6}
-use Rattle.notation.specs.Writings.{WritesGroup, WritesDotted, WritesGroups, WritesSide, Whole, Shortened, Writes}
+use Rattle.notation.specs.Writings.{WritesGroup, WritesGroups, WritesSide, Whole, Shortened, Writes}
 use Rattle.notation.proofs.Cuts.{Without, without-digits, cut-first, cut-without}
 use Rattle.notation.proofs.Dotted.{dotted-back, dotted-without, dotted-long}
 use Rattle.notation.proofs.ReadGroups.{after-colon, without-colon}

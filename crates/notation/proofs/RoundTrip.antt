@@ -2,12 +2,12 @@
 use mathlib.Core.Path.{_≡_, refl, sym, ap, subst, _∙_}
 use mathlib.Core.Bool.{Bool, true, false, cond}
 use mathlib.Core.List.{List, [], _∷_, _++_, map}
-use mathlib.Core.Logic.{_⊎_, inl, inr}
+use mathlib.Core.Logic.{inl, inr}
 use Prim.Native.Nat.{ℕ, zero, suc, _+_, _*_, _-_, _/_, _%_, _^_, _≤_, _<_}
 use native.Mathlib.Nat.{pow-zero, pow-suc}
 use native.Mathlib.Omega.{arith}
 use lib.Chars.{codes}
-use lib.Dec.{eqb, ltb}
+use lib.Dec.{ltb}
 use lib.ListN.{length, replicate}
 use Rattle.std.proofs.shelf.Digits.{digitsOf-step, length-digitsOf-le, under-digitsOf, number-digitsOf, number-push, value-is}
 use Rattle.std.proofs.shelf.Elements.{all-push}
@@ -21,7 +21,6 @@ use Rattle.std.specs.shelf.Digits.{digitsOf, number, Under}
 use Rattle.std.specs.shelf.Lists.{All}
 use Rattle.std.specs.Text.{digitChar, digitValue}
 use Rattle.notation.specs.Cut.{cut}
-use Rattle.notation.specs.Groups.{colon}
 use Rattle.notation.specs.Ipv4.{dotted}
 use Rattle.notation.specs.Ipv6.{read6}
 use Rattle.notation.specs.Hexadecimal.{hex}

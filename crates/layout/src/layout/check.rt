@@ -7,7 +7,7 @@ ghost use Rattle.layout.specs.Treads.{homeTread};
 use crate::layout::Layout;
 use crate::layout::LayoutRefusal;
 use crate::treads::copied;
-use crate::treads::first_unsettled;
+use crate::treads::first_unadmitted;
 use crate::treads::home_number;
 use crate::treads::is_tread_list;
 use crate::width::Width;
@@ -24,7 +24,7 @@ impl Layout {
         if !is_tread_list(width, treads) {
             return Err(LayoutRefusal::UnlawfulTreads);
         }
-        if let Some(length) = first_unsettled(width, &generator, treads) {
+        if let Some(length) = first_unadmitted(width, &generator, treads) {
             return Err(LayoutRefusal::Unadmitted { length });
         }
         Ok(Layout {

@@ -1,8 +1,7 @@
 // Making a prefix, its parts, and what it covers.
 ghost use mathlib.Core.Path.{_≡_};
-ghost use lib.Dec.{eqb};
-ghost use Rattle.layout.specs.Addresses.{rounded};
-ghost use Rattle.layout.specs.Prefixes.{Made};
+ghost use Rattle.std.specs.Orderings.{When};
+ghost use Rattle.layout.specs.Prefixes.{Covered, Made};
 use crate::prefix::Prefix;
 use crate::prefix::PrefixFault;
 use crate::width::Width;
@@ -50,7 +49,7 @@ impl Prefix {
 
     // Whether the address, rounded to the prefix's length, is the prefix.
     pub fn covers(&self, address: u128) -> bool
-        ensures { λ r. ⌜ r ≡ eqb (rounded (now (self .entry) .width .bits) (now (self .entry) .length) address) (now (self .entry) .address) ⌝ }
+        ensures { λ r. ⌜ When r (Covered (now (self .entry)) address) (Covered (now (self .entry)) address → ⊥) ⌝ }
     {
         let rounded = self.width.round(address, self.length);
         rounded == self.address

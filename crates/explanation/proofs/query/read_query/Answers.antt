@@ -1,4 +1,4 @@
-use mathlib.Core.Path.{_≡_, sym, ap, _∙_, subst, subst₂}
+use mathlib.Core.Path.{sym, ap, _∙_, subst}
 use Prim.Native.Nat.{_<_, _^_}
 use Rattle.std.specs.declared.result.Result.the-variants.{Err}
 use Rattle.explanation.specs.Lines.{readPrefix}

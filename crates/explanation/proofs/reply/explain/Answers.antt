@@ -1,11 +1,9 @@
 use mathlib.Core.Path.{_≡_, sym, ap, ap₂, _∙_, subst}
 use mathlib.Core.List.{List, [], _∷_, _++_}
-use Prim.Native.Nat.{ℕ, _+_}
-use native.Mathlib.Omega.{arith}
-use lib.ListN.{take, getD, length}
+use Prim.Native.Nat.{ℕ}
+use lib.ListN.{take}
 use lib.Seq.{take-all}
 use Rattle.std.specs.Joined.{joined}
-use Rattle.std.specs.Of.String.{string-bytes}
 use Rattle.std.proofs.shelf.Lists.{take-more, joined-more}
 use Rattle.std.proofs.shelf.Results.{err-from-errBy}
 use Rattle.explanation.specs.Places.{PlacesOf}

@@ -1,8 +1,5 @@
 -- The first group, a colon, and the rest.
-use mathlib.Core.Path.{_≡_, sym, ap, _∙_}
-use Prim.Native.Nat.{ℕ, _<_, _≤_}
-use native.Mathlib.Omega.{arith}
-use lib.ListN.{length}
+use mathlib.Core.Path.{sym, ap, _∙_}
 use Rattle.std.proofs.Writes.{put-is, put-more, wrote-none}
 use Rattle.std.specs.Results.{isOk}
 use Rattle.notation.proofs.HexText.{colons-none, colons-one, colons-more}

@@ -1,6 +1,5 @@
 -- The digits before the last, and the last.
-use mathlib.Core.Path.{_≡_, refl, ap}
-use Prim.Native.Nat.{ℕ, _<_, _≤_}
+use mathlib.Core.Path.{ap}
 use native.Mathlib.Omega.{arith}
 use Rattle.std.proofs.Writes.{put-is, put-more}
 use Rattle.std.specs.Results.{isOk}

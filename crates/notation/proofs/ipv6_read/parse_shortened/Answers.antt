@@ -1,5 +1,5 @@
 -- The sides of `::` are joined as `around` says.
-use mathlib.Core.Path.{_≡_, _∙_}
+use mathlib.Core.Path.{_∙_}
 use mathlib.Core.Bool.{true, false}
 use Rattle.notation.specs.Ipv6.{readSide}
 use Rattle.notation.proofs.Joining.{joined-is}

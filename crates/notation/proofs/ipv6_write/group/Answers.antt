@@ -1,5 +1,4 @@
 -- The power fits, and is not 0.
-use mathlib.Core.Path.{_≡_}
 use native.Mathlib.Omega.{arith}
 use Rattle.notation.proofs.GroupSums.{power-lt, power-positive}
 use Rattle.notation.proofs.ipv6_write.group.Needs as need

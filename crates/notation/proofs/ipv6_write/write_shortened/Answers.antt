@@ -1,6 +1,5 @@
 -- The groups on both sides of `::`.
-use mathlib.Core.Path.{_≡_, sym, ap, _∙_}
-use Prim.Native.Nat.{ℕ, _<_, _≤_}
+use mathlib.Core.Path.{sym, ap, _∙_}
 use native.Mathlib.Omega.{arith}
 use Rattle.std.proofs.Writes.{put-is, put-more}
 use Rattle.std.proofs.shelf.Tests.{leb-true}

@@ -1,8 +1,8 @@
 -- The loop stops at the first place of the mark, or at the end.
-use mathlib.Core.Path.{_≡_, sym, ap, subst, _∙_}
-use mathlib.Core.Bool.{Bool, true, false}
+use mathlib.Core.Path.{_≡_, sym, ap, _∙_}
+use mathlib.Core.Bool.{Bool}
 use mathlib.Core.List.{List}
-use Prim.Native.Nat.{ℕ, _-_, _<_, _≤_}
+use Prim.Native.Nat.{ℕ, _-_}
 use native.Mathlib.Nat.{sub-zero}
 use native.Mathlib.Omega.{arith}
 use borrow.Author.Count.{below-more}
@@ -12,7 +12,7 @@ use Rattle.std.proofs.shelf.Lists.{take-rest}
 use Rattle.std.specs.declared.option.Option.the-variants.{Some}
 use Rattle.std.specs.Lexical.{Matches}
 use Rattle.std.specs.Orderings.{Decides}
-use Rattle.notation.specs.Cut.{begins, cut}
+use Rattle.notation.specs.Cut.{begins}
 use Rattle.notation.proofs.Cuts.{begins-is, cut-at, cut-none}
 use Rattle.notation.proofs.split.split_once.Needs as need
 

@@ -1,13 +1,12 @@
 use mathlib.Core.Path.{_≡_, refl, sym, ap, _∙_, subst, subst₂}
 use native.Mathlib.Decide.{decLt}
-use Prim.Native.Nat.{ℕ, suc, _+_, _-_, _<_, _≤_}
+use Prim.Native.Nat.{_-_}
 use native.Mathlib.Omega.{arith}
 use lib.ListN.{getD, length}
 use Rattle.std.specs.Of.Vec.{vec-items, vec-len}
 use Rattle.layout.specs.Layouts.{treadsOf}
 use Rattle.layout.specs.Treads.{homeTread}
 use Rattle.explanation.specs.Places.{PlaceOf}
-use Rattle.explanation.specs.declared.place.Place.{Place}
 use Rattle.explanation.proofs.query.Query.places.Needs as need
 
 pub loop-number-again : need.loop-number-again

@@ -7,10 +7,10 @@ pub returns-then-not-is-tread-list : need.returns-then-not-is-tread-list
 returns-then-not-is-tread-list c =
     (subst IsGenerator (c .in-Some .ensures tt) (is-generator (c .in-Some .generator)), c .if-not-is-tread-list .ensures tt)
 
-pub returns-in-Some-first-unsettled : need.returns-in-Some-first-unsettled
-returns-in-Some-first-unsettled c = record {
+pub returns-in-Some-first-unadmitted : need.returns-in-Some-first-unadmitted
+returns-in-Some-first-unadmitted c = record {
   generator = c .in-Some .generator;
   poly-is = c .in-Some .ensures tt;
   lawful = c .if-not-is-tread-list .ensures tt;
-  first = c .in-Some-first-unsettled .ensures tt;
+  first = c .in-Some-first-unadmitted .ensures tt;
 }

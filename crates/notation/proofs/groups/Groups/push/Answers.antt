@@ -1,5 +1,5 @@
 -- With fewer than eight groups one more fits.
-use Prim.Native.Nat.{ℕ, _+_, _*_, _^_, _<_, _≤_}
+use Prim.Native.Nat.{ℕ, _+_, _*_, _^_, _<_}
 use native.Mathlib.Omega.{arith}
 use Rattle.notation.proofs.GroupSums.{group-lt, address-lt}
 use Rattle.notation.proofs.groups.Groups.push.Needs as need
