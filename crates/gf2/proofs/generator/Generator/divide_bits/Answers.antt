@@ -13,7 +13,7 @@ before : (c : need.In-loop-k)
     → Turn (c .args .self .now) (c .args .dividend) (c .loop-k .k - 1) (c .loop-k .quotient) (c .loop-k .remainder * 2 + c .args .dividend / 2 ^ (c .loop-k .k - 1) % 2)
 before c =
     turn (c .args .self .now) (c .args .dividend) (c .args .bits) (c .loop-k .k) (c .loop-k .quotient) (c .loop-k .remainder)
-    (c .pre .within) (c .pre .few) (c .loop-k-test .taken) (c .loop-k .inv)
+    (c .pre .within) (c .pre .few) (omega arith) (c .loop-k .inv)
 
 pub mul-next : need.mul-next
 mul-next c = omega (arith, before c .next-small)
@@ -26,7 +26,7 @@ after : (c : need.After-goes-into-digit)
     → Turn (c .args .self .now) (c .args .dividend) (c .loop-k .k - 1) (c .loop-k .quotient) (c .loop-k .remainder * 2 + c .args .dividend / 2 ^ (c .loop-k .k - 1) % 2)
 after c =
     turn (c .args .self .now) (c .args .dividend) (c .args .bits) (c .loop-k .k) (c .loop-k .quotient) (c .loop-k .remainder)
-    (c .pre .within) (c .pre .few) (c .loop-k-test .taken) (c .loop-k .inv)
+    (c .pre .within) (c .pre .few) (omega arith) (c .loop-k .inv)
 
 pub mul-quotient : need.mul-quotient
 mul-quotient c = omega (arith, after c .quotient-fits)
