@@ -1,5 +1,7 @@
-// Reads lines `LIST ADDRESS/LENGTH` from standard input, and writes for each where the prefix may stand, and why not
-// elsewhere. Everything that is said is made by the library `explanation`; this only moves bytes.
+//! Reads lines `LIST ADDRESS/LENGTH` from standard input, and writes for each where the prefix may stand, and why not
+//! elsewhere. Everything that is said is made by the library `explanation`; this only moves bytes.
+#![tactic(auto)]
+
 use explanation::line::without_end;
 use explanation::reply::reply;
 use std::io::{BufRead, BufReader};

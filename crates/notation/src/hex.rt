@@ -21,7 +21,7 @@ impl fmt::Display for HexText {
 
 // Writes groups with colons between.
 pub(crate) fn write_groups<W: fmt::Write>(groups: &[u16], f: &mut fmt::Formatter<W>) -> fmt::Result
-    ensures { WritesOnOk write_str_gives f.old result (colons groups.now) f.new }
+    ensures { WritesOnOk W.write_str_gives f.old result (colons groups.now) f.new }
 {
     if groups.is_empty() {
         Ok(())
@@ -36,7 +36,7 @@ pub(crate) fn write_groups<W: fmt::Write>(groups: &[u16], f: &mut fmt::Formatter
 
 // Writes a number in lower case without leading zeros.
 fn write_hex<W: fmt::Write>(n: u128, f: &mut fmt::Formatter<W>) -> fmt::Result
-    ensures { WritesOnOk write_str_gives f.old result (hex n) f.new }
+    ensures { WritesOnOk W.write_str_gives f.old result (hex n) f.new }
 {
     if n < 16 {
         f.write_char(digit(n))

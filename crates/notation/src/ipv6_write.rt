@@ -41,7 +41,7 @@ impl fmt::Display for Ipv6Text {
 
 // Writes groups with colons between, and `::` for the longest run of two zeros or more.
 fn write_shortened<W: fmt::Write>(groups: &[u16], f: &mut fmt::Formatter<W>) -> fmt::Result
-    ensures { WritesOnOk write_str_gives f.old result (groups_text groups.now) f.new }
+    ensures { WritesOnOk W.write_str_gives f.old result (groups_text groups.now) f.new }
 {
     let run = longest_zero_run(groups);
     if !run.is_shortened() {

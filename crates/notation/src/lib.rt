@@ -1,4 +1,6 @@
-// How numbers, IPv4 addresses and IPv6 addresses are written as text.
+//! How numbers, IPv4 addresses and IPv6 addresses are written as text.
+#![tactic(auto)]
+
 pub mod decimal;
 mod digits;
 mod groups;

@@ -1,6 +1,8 @@
-// Reads lines `ADDRESS/LENGTH TREAD SLOT HOP` from standard input, places each prefix in a small store and answers with
-// a line; at the end it lists what stands in the store. What is said and done is made by the library `placement`; this
-// only moves bytes.
+//! Reads lines `ADDRESS/LENGTH TREAD SLOT HOP` from standard input, places each prefix in a small store and answers with
+//! a line; at the end it lists what stands in the store. What is said and done is made by the library `placement`; this
+//! only moves bytes.
+#![tactic(auto)]
+
 use anyhow::anyhow;
 use layout::named::named;
 use lines::line::without_end;

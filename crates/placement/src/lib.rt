@@ -1,4 +1,6 @@
-// Prefixes placed in a store by hand, what is answered to a line that asks for it, and a listing of what stands where.
+//! Prefixes placed in a store by hand, what is answered to a line that asks for it, and a listing of what stands where.
+#![tactic(auto)]
+
 pub mod answer;
 pub mod listing;
 pub mod placer;

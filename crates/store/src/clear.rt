@@ -6,7 +6,7 @@ use crate::place::Place;
 
 // Sets every place to nothing.
 pub fn clear<S: BucketStore>(store: &mut S)
-    ensures { Emptied (grid store.old) (grid store.new) }
+    ensures { Emptied (S.grid store.old) (S.grid store.new) }
 {
     let shape = store.shape();
     for bucket in 0..shape.buckets {

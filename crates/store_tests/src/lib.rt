@@ -1,4 +1,6 @@
-// Stores and placers run against plain models of them, beside what is proved.
+//! Stores and placers run against plain models of them, beside what is proved.
+#![tactic(auto)]
+
 #[cfg(test)]
 mod placements;
 #[cfg(test)]

@@ -1,4 +1,6 @@
-// The libraries run on known values, beside what is proved of them.
+//! The libraries run on known values, beside what is proved of them.
+#![tactic(auto)]
+
 #[cfg(test)]
 mod address_texts;
 #[cfg(test)]

@@ -12,8 +12,8 @@ loop-place-preserved c =
     let items = c.deref-place-items.result.now in
     let i = c.loop-place.place-index in
     let place = c.place-item.result in
-    let line : c.as-str.result.now ≡ place_line place = c.as-str.ensures.value ∙ c.in-ok-line.ensures in
-    c.in-ok-push-str.ensures.bytes
+    let line : c.as_str.result.now ≡ place_line place = c.as_str.ensures.value ∙ c.in_ok-line.ensures in
+    c.in_ok-push_str.ensures.bytes
     ∙ ap₂ (λ a b. a ++ b) c.loop-place.invariant line
     ∙ flat_map_more place_line head (take i items) place
     ∙ ap (λ xs. head ++ flat_map place_line xs)
@@ -25,12 +25,12 @@ returns c =
     let i = c.loop-place.place-index in
     record {
       places = items;
-      are = subst (PlacesOf c.args.query.now) (sym c.deref-place-items.ensures.value) c.in-ok-places.ensures;
+      are = subst (PlacesOf c.args.query.now) (sym c.deref-place-items.ensures.value) c.in_ok-places.ensures;
       text = c.loop-place.invariant ∙ ap (λ xs. heading_of c.args.query.now ++ flat_map place_line xs) (take_all i items c.loop-place-test.false);
     }
 
-pub returns-in-err-line : goal.returns-in-err-line
-returns-in-err-line c = let p = err_from_is_err_and c.from-residual-in-err-line.result c.from-residual-in-err-line.ensures.1 in rw p.1 tt
+pub returns-in_err-line : goal.returns-in_err-line
+returns-in_err-line c = let p = err_from_is_err_and c.from_residual-in_err-line.result c.from_residual-in_err-line.ensures.1 in rw p.1 tt
 
-pub returns-in-err-push-str : goal.returns-in-err-push-str
-returns-in-err-push-str c = let p = err_from_is_err_and c.from-residual-in-err-push-str.result c.from-residual-in-err-push-str.ensures.1 in rw p.1 tt
+pub returns-in_err-push_str : goal.returns-in_err-push_str
+returns-in_err-push_str c = let p = err_from_is_err_and c.from_residual-in_err-push_str.result c.from_residual-in_err-push_str.ensures.1 in rw p.1 tt

@@ -9,10 +9,10 @@ loop-number-preserved c =
     let n = c.loop-number.number in
     elim c.if-tread-length.branch [
       | then-tread-length w ↦
-          subst (Best ts c.args.length (n + 1)) (sym w.home_is)
+          subst (Best ts c.args.length (n + 1)) (sym w.home-is)
           (best_new c.args.bits ts c.args.length n c.requires c.loop-number-test.true (omega (arith, w.if-tread-length.true)))
       | else-tread-length w ↦
-          subst (Best ts c.args.length (n + 1)) (sym w.home_is)
+          subst (Best ts c.args.length (n + 1)) (sym w.home-is)
           (best_kept ts c.args.length n c.loop-number.home c.loop-number.invariant (omega (arith, w.if-tread-length.false)))
     ]
 

@@ -2,5 +2,5 @@
 use Rattle.std.proofs.Common.{length}
 use Rattle.notation.proofs.hex.+write_groups.Given as goal
 
-abbrev pub decreases-write-groups : goal.decreases-write-groups
-decreases-write-groups g l = length l.groups.now
+abbrev pub decreases-write_groups : goal.decreases-write_groups
+decreases-write_groups g l = length l.groups.now

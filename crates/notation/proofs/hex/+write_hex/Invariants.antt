@@ -1,5 +1,5 @@
 -- The number falls.
 use Rattle.notation.proofs.hex.+write_hex.Given as goal
 
-abbrev pub decreases-write-hex : goal.decreases-write-hex
-decreases-write-hex g l = l.n
+abbrev pub decreases-write_hex : goal.decreases-write_hex
+decreases-write_hex g l = l.n

@@ -10,8 +10,8 @@ fits cl cr vl vr p h k l e = subst (λ n. vl * n + vr < 2 ^ 128) (sym e) (around
 pub pow-requires : goal.pow-requires
 pow-requires c = power_lt (8 - c.args.left.count) (omega arith)
 
-pub overflow-mul-result : goal.overflow-mul-result
-overflow-mul-result c = let room = leb-true _ _ (sym c.leave-room.ensures ∙ c.if-not-leave-room.false) in omega (arith, fits c.args.left.count c.args.right.count c.args.left.value c.args.right.value c.pow.result (omega arith) c.args.left.fits c.args.right.fits c.pow.ensures)
+pub overflow_mul-result : goal.overflow_mul-result
+overflow_mul-result c = let room = leb-true _ _ (sym c.leave_room.ensures ∙ c.if-not-leave_room.false) in omega (arith, fits c.args.left.count c.args.right.count c.args.left.value c.args.right.value c.pow.result (omega arith) c.args.left.fits c.args.right.fits c.pow.ensures)
 
-pub overflow-add-result : goal.overflow-add-result
-overflow-add-result c = let room = leb-true _ _ (sym c.leave-room.ensures ∙ c.if-not-leave-room.false) in omega (arith, fits c.args.left.count c.args.right.count c.args.left.value c.args.right.value c.pow.result (omega arith) c.args.left.fits c.args.right.fits c.pow.ensures)
+pub overflow_add-result : goal.overflow_add-result
+overflow_add-result c = let room = leb-true _ _ (sym c.leave_room.ensures ∙ c.if-not-leave_room.false) in omega (arith, fits c.args.left.count c.args.right.count c.args.left.value c.args.right.value c.pow.result (omega arith) c.args.left.fits c.args.right.fits c.pow.ensures)

@@ -5,4 +5,4 @@ use Rattle.notation.proofs.Joining.{joined_is}
 use Rattle.notation.proofs.ipv6_read.parse_shortened.Goals as goal
 
 pub returns : goal.returns
-returns c = c.join-around-zeros.ensures ∙ joined_is (read_side false c.args.left.now) (read_side true c.args.right.now) _ _ c.in-ok-left.ensures c.in-ok-right.ensures
+returns c = c.join_around_zeros.ensures ∙ joined_is (read_side false c.args.left.now) (read_side true c.args.right.now) _ _ c.in_ok-left.ensures c.in_ok-right.ensures

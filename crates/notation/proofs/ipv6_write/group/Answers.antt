@@ -6,5 +6,5 @@ use Rattle.notation.proofs.ipv6_write.group.Goals as goal
 pub pow-requires : goal.pow-requires
 pow-requires c = power_lt c.args.place (omega arith)
 
-pub nonzero-div-result : goal.nonzero-div-result
-nonzero-div-result c = omega (arith, c.pow.ensures, power_positive c.args.place)
+pub nonzero_div-result : goal.nonzero_div-result
+nonzero_div-result c = omega (arith, c.pow.ensures, power_positive c.args.place)

@@ -7,10 +7,10 @@ use Rattle.notation.proofs.ipv6_write.write_shortened.Goals as goal
 
 pub returns : goal.returns
 returns g c = λ plain ok.
-    let p = c.write-groups-2.ensures plain (ap is_ok c.in-ok-write-groups.was) in
-    let q = c.write-str.ensures.writes p.plain (ap is_ok c.in-ok-write-str.was) in
-    let r = c.write-groups-3.ensures q.plain ok in
-    let run = c.longest-zero-run-run in
-    let h = leb-true 2 run.result.len (sym c.is-shortened.ensures ∙ c.if-not-is-shortened.false) in
+    let p = c.write_groups-2.ensures plain (ap is_ok c.in_ok-write_groups.was) in
+    let q = c.write_str.ensures.writes p.plain (ap is_ok c.in_ok-write_str.was) in
+    let r = c.write_groups-3.ensures q.plain ok in
+    let run = c.longest_zero_run-run in
+    let h = leb-true 2 run.result.len (sym c.is_shortened.ensures ∙ c.if-not-is_shortened.false) in
     has_written_of_eq g.W.Write.write_str_gives _ _ _ _ (text_short c.args.groups.now run.result.start run.result.len run.ensures.longest h (run.ensures.first (omega arith)))
     (has_written_append g.W.Write.write_str_gives _ _ _ _ _ p (has_written_append g.W.Write.write_str_gives _ _ _ _ _ q r))

@@ -6,15 +6,15 @@ use Rattle.notation.specs.declared.zero_run.ZeroRun.{ZeroRun}
 use Rattle.notation.specs.Ipv6Text.{leading_zeros}
 use Rattle.notation.proofs.ZeroRuns.{Longest, longest_kept, longest_new, longest_is, cut_run}
 use Rattle.notation.proofs.zero_run.longest_zero_run.Goals as goal
-use Rattle.notation.proofs.zero_run.longest_zero_run.Goals.{then-is-longer-than, else-is-longer-than}
+use Rattle.notation.proofs.zero_run.longest_zero_run.Goals.{then-is_longer_than, else-is_longer_than}
 
 pub loop-start-preserved : goal.loop-start-preserved
 loop-start-preserved c =
     let gs = c.args.groups.now in let i = c.loop-start.start in
-    let e : c.leading-zeros.result ≡ leading_zeros (drop i gs) = c.leading-zeros.ensures ∙ ap leading_zeros (take_rest gs i) in
-    elim c.if-is-longer-than.branch [
-      | then-is-longer-than w ↦ subst (λ (z : ZeroRun). Longest gs (i + 1) z.start z.len) (sym w.longest_is) (longest_new gs i _ _ _ c.loop-start-test.true e (ltb-true _ _ (sym c.is-longer-than.ensures ∙ w.if-is-longer-than.true)) c.loop-start.invariant)
-      | else-is-longer-than w ↦ subst (λ (z : ZeroRun). Longest gs (i + 1) z.start z.len) (sym w.longest_is) (longest_kept gs i _ _ _ e (ltb-false _ _ (sym c.is-longer-than.ensures ∙ w.if-is-longer-than.false)) c.loop-start.invariant)
+    let e : c.leading_zeros.result ≡ leading_zeros (drop i gs) = c.leading_zeros.ensures ∙ ap leading_zeros (take_rest gs i) in
+    elim c.if-is_longer_than.branch [
+      | then-is_longer_than w ↦ subst (λ (z : ZeroRun). Longest gs (i + 1) z.start z.len) (sym w.longest-is) (longest_new gs i _ _ _ c.loop-start-test.true e (ltb-true _ _ (sym c.is_longer_than.ensures ∙ w.if-is_longer_than.true)) c.loop-start.invariant)
+      | else-is_longer_than w ↦ subst (λ (z : ZeroRun). Longest gs (i + 1) z.start z.len) (sym w.longest-is) (longest_kept gs i _ _ _ e (ltb-false _ _ (sym c.is_longer_than.ensures ∙ w.if-is_longer_than.false)) c.loop-start.invariant)
     ]
 
 pub returns : goal.returns

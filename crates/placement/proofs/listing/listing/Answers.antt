@@ -9,9 +9,9 @@ loop-bucket-preserved c =
     let store = c.args.store.now in
     let bucket = c.loop-bucket.bucket in
     let inside : bucket < (word_shape store.elements.now store.buckets store.slots).buckets = omega arith in
-    one_more_bucket (string_bytes c.push-str.new.self) (string_bytes c.loop-bucket.text) c.as-str.result.now (string_bytes c.in-ok-lines.lines)
-    c.in-ok-push-str.ensures.bytes c.as-str.ensures.value store.elements.now store.slots bucket
-    c.loop-bucket.invariant (c.in-ok-lines.ensures inside)
+    one_more_bucket (string_bytes c.push_str.new.self) (string_bytes c.loop-bucket.text) c.as_str.result.now (string_bytes c.in_ok-lines.lines)
+    c.in_ok-push_str.ensures.bytes c.as_str.ensures.value store.elements.now store.slots bucket
+    c.loop-bucket.invariant (c.in_ok-lines.ensures inside)
 
 pub returns : goal.returns
 returns c =

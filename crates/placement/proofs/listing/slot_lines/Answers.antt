@@ -9,9 +9,9 @@ loop-slot-preserved c = λ h.
     let store = c.args.store.now in
     let slot = c.loop-slot.slot in
     let inside : slot < (word_shape store.elements.now store.buckets store.slots).slots = omega arith in
-    one_more_slot (string_bytes c.push-str.new.self) (string_bytes c.loop-slot.text) c.as-str.result.now (string_bytes c.in-ok-line.line)
-    c.in-ok-push-str.ensures.bytes c.as-str.ensures.value store.elements.now store.slots c.args.bucket slot
-    (c.loop-slot.invariant h) (c.in-ok-line.ensures (record { bucket = h; slot = inside }))
+    one_more_slot (string_bytes c.push_str.new.self) (string_bytes c.loop-slot.text) c.as_str.result.now (string_bytes c.in_ok-line.line)
+    c.in_ok-push_str.ensures.bytes c.as_str.ensures.value store.elements.now store.slots c.args.bucket slot
+    (c.loop-slot.invariant h) (c.in_ok-line.ensures (record { bucket = h; slot = inside }))
 
 pub returns : goal.returns
 returns c = λ h.

@@ -13,7 +13,7 @@ loop-number-preserved c =
     let number = c.loop-number.number in
     let before = c.loop-number.places in
     let after = c.push.new.self in
-    let grown = c.in-ok-push.ensures in (
+    let grown = c.in_ok-push.ensures in (
       omega (arith, grown.len),
       λ k none h. elim (dec_lt k (vec_len before)) [
         | yes l ↦ subst (PlaceOf q (get_or ts (home - k) 0)) (sym (grown.places.0 k none l)) (c.loop-number.invariant.1 k none l)

@@ -8,7 +8,7 @@ pub returns : goal.returns
 returns c =
     let g = c.args.self.now in
     let p = c.args.dividend in
-    let answer = c.divide-bits.ensures in
+    let answer = c.divide_bits.ensures in
     let pair = subst₂ (Divides g p) (sym answer.quotient) (sym answer.remainder) (divides g p) in
     record {
       divides = pair;

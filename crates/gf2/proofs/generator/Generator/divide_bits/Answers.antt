@@ -2,42 +2,43 @@ use Rattle.std.proofs.Common.{◌+◌, ◌-◌, ◌*◌, ◌/◌, ◌%◌, ◌^�
 use lib.Bits.{bit_xor}
 use Rattle.gf2.proofs.Rows.{Turn, turn, none_above}
 use Rattle.gf2.proofs.generator.Generator.divide_bits.Goals as goal
+use Rattle.gf2.proofs.generator.Generator.divide_bits.Goals.{After-goes_into-digit, In-loop-k}
 
 pub loop-k-init : goal.loop-k-init
 loop-k-init c = none_above c.args.self.now c.args.dividend c.args.bits c.requires.within
 
 -- the turn at which the coefficient of x^(k - 1) is brought down
-before : (c : goal.In-loop-k)
+before : (c : In-loop-k)
     → Turn c.args.self.now c.args.dividend (c.loop-k.k - 1) c.loop-k.quotient (c.loop-k.remainder * 2 + c.args.dividend / 2 ^ (c.loop-k.k - 1) % 2)
 before c =
     turn c.args.self.now c.args.dividend c.args.bits c.loop-k.k c.loop-k.quotient c.loop-k.remainder
     c.requires.within c.requires.few (omega arith) c.loop-k.invariant
 
-pub overflow-mul-next : goal.overflow-mul-next
-overflow-mul-next c = omega (arith, (before c).next_small)
+pub overflow_mul-next : goal.overflow_mul-next
+overflow_mul-next c = omega (arith, (before c).next_small)
 
-pub overflow-add-next : goal.overflow-add-next
-overflow-add-next c = omega (arith, (before c).next_small)
+pub overflow_add-next : goal.overflow_add-next
+overflow_add-next c = omega (arith, (before c).next_small)
 
 -- the same, once the generator's digit is known
-after : (c : goal.After-goes-into-digit)
+after : (c : After-goes_into-digit)
     → Turn c.args.self.now c.args.dividend (c.loop-k.k - 1) c.loop-k.quotient (c.loop-k.remainder * 2 + c.args.dividend / 2 ^ (c.loop-k.k - 1) % 2)
 after c =
     turn c.args.self.now c.args.dividend c.args.bits c.loop-k.k c.loop-k.quotient c.loop-k.remainder
     c.requires.within c.requires.few (omega arith) c.loop-k.invariant
 
-pub overflow-mul-quotient : goal.overflow-mul-quotient
-overflow-mul-quotient c = omega (arith, (after c).quotient_fits)
+pub overflow_mul-quotient : goal.overflow_mul-quotient
+overflow_mul-quotient c = omega (arith, (after c).quotient_fits)
 
-pub overflow-add-quotient : goal.overflow-add-quotient
-overflow-add-quotient c = omega (arith, (after c).quotient_fits, c.goes-into-digit.ensures)
+pub overflow_add-quotient : goal.overflow_add-quotient
+overflow_add-quotient c = omega (arith, (after c).quotient_fits, c.goes_into-digit.ensures)
 
-pub overflow-mul-remainder : goal.overflow-mul-remainder
-overflow-mul-remainder c = omega (arith, (after c).product_small, ap₂ ◌*◌ c.goes-into-digit.ensures c.poly-poly.ensures)
+pub overflow_mul-remainder : goal.overflow_mul-remainder
+overflow_mul-remainder c = omega (arith, (after c).product_small, ap₂ ◌*◌ c.goes_into-digit.ensures c.poly-poly.ensures)
 
 pub loop-k-preserved : goal.loop-k-preserved
 loop-k-preserved c =
-    let digit = c.goes-into-digit.ensures in
+    let digit = c.goes_into-digit.ensures in
     let next = c.loop-k.remainder * 2 + c.args.dividend / 2 ^ (c.loop-k.k - 1) % 2 in (
       ap (λ d. c.loop-k.quotient * 2 + d) digit ∙ (after c).quotient,
       ap (bit_xor next) (ap₂ ◌*◌ digit c.poly-poly.ensures) ∙ (after c).remainder,

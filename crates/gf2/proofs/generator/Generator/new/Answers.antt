@@ -12,9 +12,17 @@ returns-then-poly-eq0 c g =
       | then-poly-eq0-via-else-poly-eq0+else-poly+then-poly-2 w ↦ omega (arith, w.if-poly-2.true)
     ]
 
-pub invariant-of-result : goal.invariant-of-result
-invariant-of-result c =
+pub invariant_of-result : goal.invariant_of-result
+invariant_of-result c =
     let r : Range c.args.poly = record { odd = omega arith; low = omega arith; high = omega arith } in
     let l = leading c.args.poly r in
     let t = lowest c.args.poly r in
-    (l.leads, (l.least, (l.most, (t.positive, (ordered c.args.poly _ _ l.leads t.present, (t.apart, (t.present, tt)))))))
+    record {
+      leads = l.leads;
+      least = l.least;
+      most = l.most;
+      positive = t.positive;
+      ordered = ordered c.args.poly _ _ l.leads t.present;
+      apart = t.apart;
+      present = t.present;
+    }

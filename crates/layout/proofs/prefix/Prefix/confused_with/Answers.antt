@@ -35,11 +35,11 @@ other p g l x lw not-admitted ex =
           (confused W g p.length l lw p.within rule p.address (is_prefix p)),
     )
 
-pub invariant-of-result : goal.invariant-of-result
-invariant-of-result c =
+pub invariant_of-result : goal.invariant_of-result
+invariant_of-result c =
     let made = (other c.args.self.now c.args.generator.now c.args.tread c.unseen.result
     c.if-tread-self.false c.if-admits.ensures.value c.unseen.ensures).1.prefix in
-    (made.within, (made.fits, (made.clear, tt)))
+    record { within = made.within; fits = made.fits; clear = made.clear }
 
 pub returns : goal.returns
 returns c =

@@ -11,6 +11,6 @@ returns-then-tread-length c =
     let w = c.args.length in
     let l = c.args.tread in
     record {
-      value = c.keeps-apart.ensures ∙ sym (ap (λ b. b && keeps_apart W g w l) (le-leb l w (omega arith)));
+      value = c.keeps_apart.ensures ∙ sym (ap (λ b. b && keeps_apart W g w l) (le-leb l w (omega arith)));
       exact = λ lw wW. exact W g w l lw wW;
     }

@@ -8,6 +8,6 @@ returns g c =
     let done =
     element_written g.T.Encoded.encoding g.met.T.Encoded.restores store.elements.now c.put.new.elements store.buckets store.slots
     place.bucket place.slot c.index-index.result c.encode.result c.args.content
-    c.shape.result c.shape.ensures.value c.in-ok-check-write.ensures
+    c.shape.result c.shape.ensures.value c.in_ok-check_write.ensures
     c.put.ensures c.index-index.ensures.value c.encode.ensures in
     record { meaning = done.0; refused = tt; memory = done.1 }

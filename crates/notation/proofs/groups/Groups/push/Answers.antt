@@ -6,11 +6,11 @@ use Rattle.notation.proofs.groups.Groups.push.Goals as goal
 fits : (count value g : ℕ) → count < 8 → value < 65536 ^ count → g < 65536 → value * 65536 + g < 2 ^ 128
 fits count value g h k l = address_lt (count + 1) _ (omega arith) (group_lt count value g k l)
 
-pub overflow-mul-result : goal.overflow-mul-result
-overflow-mul-result c = omega (arith, fits c.args.self.count c.args.self.value 0 (omega arith) c.args.self.fits (omega arith))
+pub overflow_mul-result : goal.overflow_mul-result
+overflow_mul-result c = omega (arith, fits c.args.self.count c.args.self.value 0 (omega arith) c.args.self.fits (omega arith))
 
-pub overflow-add-result-2 : goal.overflow-add-result-2
-overflow-add-result-2 c = omega (arith, fits c.args.self.count c.args.self.value c.from.result (omega arith) c.args.self.fits (omega arith))
+pub overflow_add-result-2 : goal.overflow_add-result-2
+overflow_add-result-2 c = omega (arith, fits c.args.self.count c.args.self.value c.from.result (omega arith) c.args.self.fits (omega arith))
 
-pub invariant-of-result : goal.invariant-of-result
-invariant-of-result c = (omega arith, (group_lt c.args.self.count c.args.self.value c.from.result c.args.self.fits (omega arith), tt))
+pub invariant_of-result : goal.invariant_of-result
+invariant_of-result c = record { few = omega arith; fits = group_lt c.args.self.count c.args.self.value c.from.result c.args.self.fits (omega arith) }
