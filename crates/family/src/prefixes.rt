@@ -9,13 +9,13 @@ use gf2::generator::Generator;
 
 // What holds in every family.
 pub fn family_laws<F: Family>()
-    ensures { Laws wide number cleared }
+    ensures { Laws F.wide F.number F.cleared }
 {}
 
 // Whether address/length is a prefix: the length is at most the width, and every bit after it is zero.
 pub fn is_prefix<F: Family>(address: F, length: u8) -> bool
-    ensures test { Decides result (IsPrefix wide (number address) length) }
-    ensures fits { number address < 2 ^ wide }
+    ensures test { Decides result (IsPrefix F.wide (F.number address) length) }
+    ensures fits { F.number address < 2 ^ F.wide }
 {
     let bits = address.bits();
     length <= F::width().bits() && address.round(length).bits() == bits
@@ -23,21 +23,21 @@ pub fn is_prefix<F: Family>(address: F, length: u8) -> bool
 
 // Whether the address, rounded to the length, is the prefix.
 pub fn covers<F: Family>(prefix: F, length: u8, address: F) -> bool
-    ensures { Decides result (Covers wide (number prefix) length (number address)) }
+    ensures { Decides result (Covers F.wide (F.number prefix) length (F.number address)) }
 {
     address.round(length).same(prefix)
 }
 
 // The number of the bucket in which a route to the address stands under the tread.
 pub fn colony<F: Family>(address: F, generator: &Generator, tread: u8) -> u32
-    ensures { result ≡ colony wide generator.now (number address) tread }
+    ensures { result ≡ colony F.wide generator.now (F.number address) tread }
 {
     address.round(tread).divide(generator).remainder
 }
 
 // What its entry holds there.
 pub fn digest<F: Family>(address: F, generator: &Generator, tread: u8) -> u128
-    ensures { result ≡ digest wide generator.now (number address) tread }
+    ensures { result ≡ digest F.wide generator.now (F.number address) tread }
 {
     let whole = address.divide(generator);
     whole.quotient ^ whole.remainder as u128 ^ colony(address, generator, tread) as u128

@@ -16,12 +16,12 @@ loop-number-preserved c =
     let grown = c.in_ok-push.ensures in (
       omega (arith, grown.len),
       λ k none h. elim (dec_lt k (vec_len before)) [
-        | yes l ↦ subst (PlaceOf q (get_or ts (home - k) 0)) (sym (grown.places.0 k none l)) (c.loop-number.invariant.1 k none l)
+        | yes l ↦ subst (PlaceOf q (get_or ts (home - k) 0)) (sym (grown.by_index.0 k none l)) (c.loop-number.invariant.1 k none l)
         | no m ↦
             let last : k ≡ vec_len before = omega (arith, grown.len) in
             let at : number - 1 ≡ home - k = omega arith in
             subst₂ (PlaceOf q) (ap (λ xs. get_or xs (number - 1) 0) c.treads.ensures ∙ ap (λ n. get_or ts n 0) at)
-            (sym (grown.places.1 none refl) ∙ ap (λ n. get_or (vec_items after) n none) (sym last)) c.place.ensures
+            (sym (grown.by_index.1 none refl) ∙ ap (λ n. get_or (vec_items after) n none) (sym last)) c.place.ensures
       ],
     )
 
