@@ -21,7 +21,7 @@ pub struct SliceStore<'a, T: Encoded> {
 impl<'a, T: Encoded> SliceStore<'a, T> {
     // The store of that many slots in each bucket. Where they do not fill the memory exactly it has no places.
     pub fn new(elements: &'a mut [T], slots: u32) -> SliceStore<'a, T>
-        ensures meaning { Over T.Encoded.encoding elements.old slots (slice_grid T.Encoded.encoding result.elements.now result.buckets result.slots) }
+        ensures meaning { Over T.encoding elements.old slots (slice_grid T.encoding result.elements.now result.buckets result.slots) }
         ensures memory { result.elements.now ≡ elements.old }
     {
         match buckets_filled(elements.len(), slots) {
@@ -51,7 +51,7 @@ impl<'a, T: Encoded> SliceStore<'a, T> {
 
     // The element of a place that the store has.
     fn index(&self, place: Place) -> usize
-        requires { Inside (slice_shape T.Encoded.encoding.bits (length self.now.elements.now) self.now.buckets self.now.slots) place.bucket place.slot }
+        requires { Inside (slice_shape T.encoding.bits (length self.now.elements.now) self.now.buckets self.now.slots) place.bucket place.slot }
         ensures value { result ≡ place.bucket * self.now.slots + place.slot }
         ensures bound { result < length self.now.elements.now }
     {
@@ -60,7 +60,7 @@ impl<'a, T: Encoded> SliceStore<'a, T> {
 
     // The element of the place as it stands in memory.
     pub fn element(&self, place: Place) -> Option<T>
-        ensures { IsElement T.Encoded.encoding self.now.elements.now self.now.buckets self.now.slots place.bucket place.slot result }
+        ensures { IsElement T.encoding self.now.elements.now self.now.buckets self.now.slots place.bucket place.slot result }
     {
         if !self.shape().has(place) {
             return None;
@@ -94,7 +94,7 @@ fn buckets_filled(elements: usize, slots: u32) -> Option<u32>
 }
 
 impl<'a, T: Encoded> BucketStore for SliceStore<'a, T> {
-    ghost grid = { λ s. slice_grid T.Encoded.encoding s.elements.now s.buckets s.slots };
+    ghost grid = { λ s. slice_grid T.encoding s.elements.now s.buckets s.slots };
 
     fn shape(&self) -> Shape {
         let digest_bits = T::digest_bits();
@@ -123,9 +123,9 @@ impl<'a, T: Encoded> BucketStore for SliceStore<'a, T> {
     }
 
     fn write(&mut self, place: Place, content: Option<Entry>) -> Result<(), WriteRefusal>
-        ensures meaning { Writes (slice_grid T.Encoded.encoding self.old.elements.now self.old.buckets self.old.slots) place.bucket place.slot content result (slice_grid T.Encoded.encoding self.new.elements.now self.new.buckets self.new.slots) }
+        ensures meaning { Writes (slice_grid T.encoding self.old.elements.now self.old.buckets self.old.slots) place.bucket place.slot content result (slice_grid T.encoding self.new.elements.now self.new.buckets self.new.slots) }
         ensures refused { OnErr result (self.new ≡ self.old) }
-        ensures memory { self.new.elements.now ≡ written self.old.elements.now (place.bucket * self.old.slots + place.slot) (T.Encoded.encoding.encoded content) result }
+        ensures memory { self.new.elements.now ≡ written self.old.elements.now (place.bucket * self.old.slots + place.slot) (T.encoding.encoded content) result }
     {
         self.shape().check_write(place, content)?;
         let index = self.index(place);

@@ -18,7 +18,7 @@ impl<S: BucketStore> Placer<S> {
     // Places what the line asks for, if it can be read.
     pub fn answer(&mut self, line: &[u8]) -> Answer
         ensures layout { self.new.layout ≡ self.old.layout }
-        ensures answered { Answered self.old.layout line.now (grid self.old.store) result (grid self.new.store) }
+        ensures answered { Answered self.old.layout line.now (S.grid self.old.store) result (S.grid self.new.store) }
         ensures refused { Kept result self.old.store self.new.store }
     {
         let Some(placing) = read_placing(line) else {

@@ -38,7 +38,7 @@ impl<S: BucketStore> Placer<S> {
     // The store is emptied first.
     pub fn new(layout: Layout, store: S) -> Placer<S>
         ensures layout { result.layout ≡ layout }
-        ensures emptied { Emptied (grid store) (grid result.store) }
+        ensures emptied { Emptied (S.grid store) (S.grid result.store) }
     {
         let mut store = store;
         clear(&mut store);
@@ -54,7 +54,7 @@ impl<S: BucketStore> Placer<S> {
     // Writes the entry of the prefix at the place that is asked for, or says why not and changes nothing.
     pub fn place<F: Family>(&mut self, placing: Placing<F>) -> Result<Place, PlaceFault>
         ensures layout { self.new.layout ≡ self.old.layout }
-        ensures placed { Placed F.Family.wide self.old.layout (numbered F.Family.number placing) (S.BucketStore.grid self.old.store) result (S.BucketStore.grid self.new.store) }
+        ensures placed { Placed F.wide self.old.layout (numbered F.number placing) (S.grid self.old.store) result (S.grid self.new.store) }
         ensures refused { OnErr result (self.new.store ≡ self.old.store) }
     {
         let (place, entry) = allowed(&self.layout, placing)?;
@@ -67,7 +67,7 @@ impl<S: BucketStore> Placer<S> {
 
 // The place and the entry, or the first question but the store's that is answered 'no'.
 fn allowed<F: Family>(layout: &Layout, placing: Placing<F>) -> Result<(Place, Entry), PlaceFault>
-    ensures { Allows wide layout.now (numbered number placing) result }
+    ensures { Allows F.wide layout.now (numbered F.number placing) result }
 {
     if placing.length > u32::from(F::width().bits()) {
         return Err(PlaceFault::LengthBeyondWidth);

@@ -23,7 +23,7 @@ impl<F, G> Interleave<F, G> {
 }
 
 impl<F: BucketStore, G: BucketStore> BucketStore for Interleave<F, G> {
-    ghost grid = { λ s. interleaved (F.BucketStore.grid s.first) (G.BucketStore.grid s.second) };
+    ghost grid = { λ s. interleaved (F.grid s.first) (G.grid s.second) };
 
     fn shape(&self) -> Shape {
         interleaved_shape(self.first.shape(), self.second.shape())
