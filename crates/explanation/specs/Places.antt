@@ -1,5 +1,5 @@
 -- Where the prefix of a query would stand. Assumes nothing.
-use Rattle.std.specs.Prelude.{◌≡◌, ℕ, suc, ◌-◌, ◌≤◌, List, length, get_or, slice_index, slice_index_or}
+use Rattle.std.specs.Prelude.{◌≡◌, ℕ, suc, ◌-◌, ◌≤◌, List, length, slice_index, slice_index_or}
 use Rattle.layout.specs.Admission.{colony, digest}
 use Rattle.layout.specs.Layouts.{treads_of}
 use Rattle.layout.specs.Prefixes.{Other}
@@ -17,6 +17,6 @@ pub record PlaceOf (q : Query) (l : ℕ) (place : Place) : Type 0 where
 -- one place for each tread, from the home tread of the prefix's length down to the first
 pub record PlacesOf (q : Query) (places : List Place) : Type 0 where
   pub home : ℕ
-  pub home_is : get_or (treads_of q.layout) home 0 ≡ home_tread (treads_of q.layout) q.prefix.length
+  pub home_is : slice_index (treads_of q.layout) home ≡ home_tread (treads_of q.layout) q.prefix.length
   pub count : length places ≡ suc home
   pub each : (k : ℕ) (none : Place) → k ≤ home → PlaceOf q (slice_index (treads_of q.layout) (home - k)) (slice_index_or places k none)

@@ -1,5 +1,5 @@
 -- Places kept in records. Assumes nothing.
-use Rattle.std.specs.Prelude.{ℕ, cond, Some, None, Option, ◌==◌}
+use Rattle.std.specs.Prelude.{cond, Some, None, Option, ◌==◌}
 use Rattle.store.specs.declared.place.Entry.{Entry}
 use Rattle.memory.specs.declared.record.Record.{Record}
 use Rattle.memory.specs.Encodings.{Encoding}

@@ -1,4 +1,4 @@
-use Rattle.std.proofs.Common.{◌≡◌, ◌-◌, length, get_or, vec_items, vec_len, sym, refl, ap, ◌∙◌, subst, subst₂, arith}
+use Rattle.std.proofs.Common.{◌≡◌, ◌-◌, get_or, vec_items, vec_len, sym, refl, ap, ◌∙◌, subst, subst₂, arith}
 use native.Mathlib.Decide.{dec_lt}
 use Rattle.layout.specs.Layouts.{treads_of}
 use Rattle.layout.specs.Treads.{home_tread}
