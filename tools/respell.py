@@ -3,9 +3,9 @@
 
 usage: python3 tools/respell.py      at the top of the repository, once, after the toolchain's own script
 
-The table below has each name and its new one. In .antt files every token is turned, in .rt files those of `ghost`
-items and clauses, in comments and in docs only names that cannot be words of the language (those with a capital).
-Strings stay as they are. It stops, and writes nothing, where a new name already stands in a file that has the old one.
+The table below has each name and its new one. In .antt and .rt files every token of the code is turned (no name of the
+table is a name of Rattle's code), and in comments and docs the names with a capital, which are no words. Strings stay as
+they are. It stops, and writes nothing, where a new name already stands in a file that has the old one.
 """
 
 import os
