@@ -3,7 +3,10 @@ use Rattle.std.proofs.Common.{◌≡◌, ℕ, zero, suc, ◌-◌, ◌%◌, ◌^�
 use Rattle.std.proofs.lemmas.Str.{IsUtf8-from_ascii}
 use Rattle.std.proofs.ByRecursion.{IsAscii-from_all}
 use Rattle.notation.specs.Cut.{cut}
-use Rattle.layout.specs.Named.{rows, v4, NoName, HasName}
+use Rattle.layout.specs.Named.{row_of, NoName, HasName}
+use Rattle.layout.specs.Layouts.{width_of}
+use Rattle.layout.specs.declared.named.ListName.{ListName}
+use Rattle.layout.specs.declared.named.ListName.TheVariants.{V4, V4Small, V6}
 use Rattle.layout.specs.Prefixes.{Made}
 use Rattle.layout.specs.declared.layout.Layout.{Layout}
 use Rattle.layout.specs.declared.prefix.PrefixFault.{PrefixFault}
@@ -13,27 +16,25 @@ use Rattle.explanation.specs.Queries.{Placed, Says, Unnamed, Answers, fault_of}
 use Rattle.explanation.specs.declared.query.LineFault.TheVariants.{Unreadable}
 
 -- the names are text
-named_utf8 : (i : ℕ) → i < 3 → IsUtf8 (get_or rows i v4).name
-named_utf8 zero h = IsUtf8-from_ascii (codes "v4") (IsAscii-from_all (codes "v4") (omega arith))
-named_utf8 (suc zero) h = IsUtf8-from_ascii (codes "v4-small") (IsAscii-from_all (codes "v4-small") (omega arith))
-named_utf8 (suc (suc zero)) h = IsUtf8-from_ascii (codes "v6") (IsAscii-from_all (codes "v6") (omega arith))
-named_utf8 (suc (suc (suc i))) h = absurd (omega arith)
+named_utf8 : (list : ListName) → IsUtf8 (row_of list).name
+named_utf8 V4 = IsUtf8-from_ascii (codes "v4") (IsAscii-from_all (codes "v4") (omega arith))
+named_utf8 V4Small = IsUtf8-from_ascii (codes "v4-small") (IsAscii-from_all (codes "v4-small") (omega arith))
+named_utf8 V6 = IsUtf8-from_ascii (codes "v6") (IsAscii-from_all (codes "v6") (omega arith))
 
 pub no_text_no_name : (name : List ℕ) → (IsUtf8 name → ⊥) → NoName name
-no_text_no_name name h i has = h (subst IsUtf8 has.1 (named_utf8 i has.0))
+no_text_no_name name h list has = h (subst IsUtf8 has (named_utf8 list))
 
--- no two rows have one name: one is longer, and the others differ in their second letter
-abbrev row_of : List ℕ → ℕ
-row_of name = cond (eqb (length name) 8) 1 (cond (eqb (get_or name 1 0) 54) 2 0)
+-- no two lists have one name: one is longer, and the others differ in their second letter
+abbrev list_of : List ℕ → ListName
+list_of name = cond (eqb (length name) 8) V4Small (cond (eqb (get_or name 1 0) 54) V6 V4)
 
-row_of_name : (i : ℕ) → i < 3 → row_of (get_or rows i v4).name ≡ i
-row_of_name zero h = refl
-row_of_name (suc zero) h = refl
-row_of_name (suc (suc zero)) h = refl
-row_of_name (suc (suc (suc i))) h = absurd (omega arith)
+list_of_name : (list : ListName) → list_of (row_of list).name ≡ list
+list_of_name V4 = refl
+list_of_name V4Small = refl
+list_of_name V6 = refl
 
-same_row : (i j : ℕ) (name : List ℕ) → HasName i name → HasName j name → i ≡ j
-same_row i j name a b = sym (row_of_name i a.0) ∙ ap row_of (a.1 ∙ sym b.1) ∙ row_of_name j b.0
+same_list : (one two : ListName) (name : List ℕ) → HasName one name → HasName two name → one ≡ two
+same_list one two name a b = sym (list_of_name one) ∙ ap list_of (a ∙ sym b) ∙ list_of_name two
 
 module _ (line name rest : List ℕ) (layout : Layout) (cuts : cut (32 ∷ []) line ≡ Some (name, rest)) (placed : Placed name layout) where
   named_after_all : Unnamed line → ⊥
@@ -41,39 +42,39 @@ module _ (line name rest : List ℕ) (layout : Layout) (cuts : cut (32 ∷ []) l
       let same : ◌≡◌ {A = List ℕ × List ℕ} (u.name, u.rest) (name, rest) = cc u.cuts in
       u.unknown placed.0 (subst (HasName placed.0) (ap (λ p. p.0) (sym same)) placed.1)
 
-  pub unread : read_prefix layout.width.bits rest ≡ None → Answers line (Err Unreadable)
+  pub unread : read_prefix (width_of layout).bits rest ≡ None → Answers line (Err Unreadable)
   unread none = (
     named_after_all,
-    λ i P w s.
+    λ list P w s.
         let same : ◌≡◌ {A = List ℕ × List ℕ} (s.name, s.rest) (name, rest) = cc s.cuts in
-        let row : i ≡ placed.0 = same_row i placed.0 name (subst (HasName i) (ap (λ p. p.0) same) s.list) placed.1 in
-        let bits : (get_or rows i v4).bits ≡ layout.width.bits = ap (λ n. (get_or rows n v4).bits) row ∙ sym placed.2.width in
-        let read : read_prefix (get_or rows i v4).bits s.rest ≡ None = ap₂ read_prefix bits (ap (λ p. p.1) same) ∙ none in
+        let the_list : list ≡ placed.0 = same_list list placed.0 name (subst (HasName list) (ap (λ p. p.0) same) s.named) placed.1 in
+        let bits : (row_of list).bits ≡ (width_of layout).bits = ap (λ l. (row_of l).bits) the_list ∙ sym placed.2.width in
+        let read : read_prefix (row_of list).bits s.rest ≡ None = ap₂ read_prefix bits (ap (λ p. p.1) same) ∙ none in
         let clash : ◌≡◌ {A = ℕ} 0 1 = cc s.prefix in
         absurd (omega arith),
   )
 
-  says : (P w : ℕ) → read_prefix layout.width.bits rest ≡ Some (P, w) → Says line placed.0 P w
+  says : (P w : ℕ) → read_prefix (width_of layout).bits rest ≡ Some (P, w) → Says line placed.0 P w
   says P w reads = record {
     name = name;
     rest = rest;
     cuts = cuts;
-    list = placed.1;
+    named = placed.1;
     prefix = ap (λ b. read_prefix b rest) (sym placed.2.width) ∙ reads;
   }
 
-  pub faulty : (P w : ℕ) (fault : PrefixFault) → read_prefix layout.width.bits rest ≡ Some (P, w) → P < 2 ^ layout.width.bits
-      → Made layout.width P w (Err fault) → Answers line (Err (fault_of fault))
+  pub faulty : (P w : ℕ) (fault : PrefixFault) → read_prefix (width_of layout).bits rest ≡ Some (P, w) → P < 2 ^ (width_of layout).bits
+      → Made (width_of layout) P w (Err fault) → Answers line (Err (fault_of fault))
   faulty P w AddressBeyondWidth reads fits made = absurd (omega arith)
   faulty P w LengthBeyondWidth reads fits made = record {
-    row = placed.0;
+    list = placed.0;
     address = P;
     length = w;
     says = says P w reads;
     beyond = subst (λ b. b < w) placed.2.width made.1;
   }
   faulty P w BitsAfterLength reads fits made = record {
-    row = placed.0;
+    list = placed.0;
     address = P;
     length = w;
     says = says P w reads;

@@ -17,7 +17,7 @@ impl Family for Ipv4Address {
 
     ghost cleared = { λ a l. record { 0 = rounded 32 l a.0 } };
 
-    ghost laws = { laws_of 32 (λ a. a.0) (λ n. record { 0 = n }) (lit≤ tt, lit≤ tt, refl) (λ n. refl) (λ a. refl) };
+    ghost laws = { laws_of 32 (λ a. a.0) (λ n. record { 0 = n }) (lit≤ tt, lit≤ tt, refl) (λ n. refl) (λ a. refl) _ (λ a b. refl) };
 
     fn width() -> Width {
         Width::IPV4
@@ -27,12 +27,7 @@ impl Family for Ipv4Address {
         u128::from(self.0)
     }
 
-    // In 32 bits, since a lookup rounds for every entry that it compares.
-    fn round(self, length: u8) -> Ipv4Address {
-        let after = 32u8.saturating_sub(length);
-        if after == 32 {
-            return Ipv4Address(0);
-        }
-        Ipv4Address((self.0 >> after) << after)
+    fn from_bits(bits: u128) -> Ipv4Address {
+        Ipv4Address((bits % (1 << 32)) as u32)
     }
 }

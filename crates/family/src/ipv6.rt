@@ -17,18 +17,17 @@ impl Family for Ipv6Address {
 
     ghost cleared = { λ a l. record { 0 = rounded 128 l a.0 } };
 
-    ghost laws = { laws_of 128 (λ a. a.0) (λ n. record { 0 = n }) (lit≤ tt, lit≤ tt, refl) (λ n. refl) (λ a. refl) };
+    ghost laws = { laws_of 128 (λ a. a.0) (λ n. record { 0 = n }) (lit≤ tt, lit≤ tt, refl) (λ n. refl) (λ a. refl) _ (λ a b. refl) };
 
     fn width() -> Width {
         Width::IPV6
     }
 
     fn bits(self) -> u128 {
-        let Ipv6Address(bits) = self;
-        bits
+        self.0
     }
 
-    fn round(self, length: u8) -> Ipv6Address {
-        Ipv6Address(Self::width().round(self.0, length))
+    fn from_bits(bits: u128) -> Ipv6Address {
+        Ipv6Address(bits)
     }
 }

@@ -1,5 +1,5 @@
 // Prefixes over any address family, their buckets and their digests.
-ghost use Rattle.std.specs.Prelude.{◌≡◌, ◌^◌, ◌<◌, Decides};
+ghost use Rattle.std.specs.Prelude.{◌≡◌, ◌^◌, ◌<◌, ◌↔◌, IsTrue};
 ghost use Rattle.layout.specs.Addresses.{IsPrefix, Covers};
 ghost use Rattle.layout.specs.Admission.{colony, digest};
 ghost use Rattle.family.specs.Laws.{Laws};
@@ -9,12 +9,12 @@ use gf2::generator::Generator;
 
 // What holds in every family.
 pub fn family_laws<F: Family>()
-    ensures { Laws F.wide F.number F.cleared }
+    ensures { Laws F.wide F.number F.cleared F.eq }
 {}
 
 // Whether address/length is a prefix: the length is at most the width, and every bit after it is zero.
 pub fn is_prefix<F: Family>(address: F, length: u8) -> bool
-    ensures test { Decides result (IsPrefix F.wide (F.number address) length) }
+    ensures test { IsTrue result ↔ IsPrefix F.wide (F.number address) length }
     ensures fits { F.number address < 2 ^ F.wide }
 {
     let bits = address.bits();
@@ -23,22 +23,21 @@ pub fn is_prefix<F: Family>(address: F, length: u8) -> bool
 
 // Whether the address, rounded to the length, is the prefix.
 pub fn covers<F: Family>(prefix: F, length: u8, address: F) -> bool
-    ensures { Decides result (Covers F.wide (F.number prefix) length (F.number address)) }
+    ensures { IsTrue result ↔ Covers F.wide (F.number prefix) length (F.number address) }
 {
-    address.round(length).same(prefix)
+    address.round(length) == prefix
 }
 
 // The number of the bucket in which a route to the address stands under the tread.
 pub fn colony<F: Family>(address: F, generator: &Generator, tread: u8) -> u32
     ensures { result ≡ colony F.wide generator.now (F.number address) tread }
 {
-    address.round(tread).divide(generator).remainder
+    F::width().colony(generator, address.bits(), tread)
 }
 
 // What its entry holds there.
 pub fn digest<F: Family>(address: F, generator: &Generator, tread: u8) -> u128
     ensures { result ≡ digest F.wide generator.now (F.number address) tread }
 {
-    let whole = address.divide(generator);
-    whole.quotient ^ whole.remainder as u128 ^ colony(address, generator, tread) as u128
+    F::width().digest(generator, address.bits(), tread)
 }

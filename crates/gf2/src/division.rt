@@ -5,7 +5,7 @@ ghost use Rattle.gf2.specs.Division.{Divides, OnlyPair, Additive, quotient_of, r
 
 use crate::generator::Generator;
 
-#[derive(Clone, Copy)]
+#[derive(Clone, Copy, PartialEq, Eq, Debug)]
 pub struct Division {
     pub quotient: u128,
     pub remainder: u32,

@@ -1,5 +1,5 @@
 -- Tread lists written out: their rules by tests that antt computes, and the worked figures. Assumes nothing.
-use Rattle.std.proofs.Common.{◌≡◌, ℕ, zero, suc, ◌+◌, ◌-◌, ◌<◌, ◌≤◌, Bool, true, false, ◌&&◌, ◌||◌, leb, List, [], ◌∷◌, length, get_or, refl, ap, ◌∙◌, ap₂, arith, lit≤}
+use Rattle.std.proofs.Common.{◌≡◌, ℕ, zero, suc, ◌+◌, ◌-◌, ◌<◌, ◌≤◌, Bool, true, false, ◌&&◌, ◌||◌, leb, List, [], ◌∷◌, length, get_or, refl, ap, ◌∙◌, ap₂, add-one, arith, lit≤}
 use native.Mathlib.Decide.{dec_lt}
 use Rattle.std.proofs.lemmas.Bool.{leb-true, and_parts}
 use Rattle.gf2.specs.Binary.{by_bits, by_bits_in}
@@ -7,7 +7,9 @@ use Rattle.gf2.specs.Division.{quotient_of, remainder_of}
 use Rattle.gf2.specs.declared.generator.Generator.{Generator}
 use Rattle.gf2.proofs.Exponents.{same_degree, same_lowest}
 use Rattle.layout.specs.Treads.{Lawful, home_tread, admitted_at_home, AllAdmitted, FirstUnadmitted}
-use Rattle.layout.specs.Named.{Row, rows, v4}
+use Rattle.layout.specs.Named.{Row, row_of}
+use Rattle.layout.specs.declared.named.ListName.{ListName}
+use Rattle.layout.specs.declared.named.ListName.TheVariants.{V4, V4Small, V6}
 use Rattle.layout.specs.Figures.{g1100d, g11d, WorkedFigures}
 
 -- a test of every number below n
@@ -29,7 +31,7 @@ lawful W ts n len few begins rises within = record {
   some = omega arith;
   few = omega arith;
   begins = begins;
-  rises = λ i l. leb-true (suc (get_or ts i 0)) (get_or ts (suc i) 0) (below_each n (λ i. leb (suc (get_or ts i 0)) (get_or ts (suc i) 0)) rises i (omega arith));
+  rises = λ i l. rw add-one (leb-true (suc (get_or ts i 0)) (get_or ts (suc i) 0) (below_each n (λ i. leb (suc (get_or ts i 0)) (get_or ts (suc i) 0)) rises i (omega arith)));
   within = λ i l. leb-true (get_or ts i 0) W (below_each (suc n) (λ i. leb (get_or ts i 0) W) within i (omega arith));
 }
 
@@ -76,23 +78,22 @@ pub record Good (row : Row) : Type 0 where
   pub lawful : Lawful row.bits row.treads
   pub admits : AllAdmitted row.bits generator row.treads
 
-pub good : (i : ℕ) → i < 3 → Good (get_or rows i v4)
-good zero h = let r = get_or rows 0 v4 in record {
+pub good : (list : ListName) → Good (row_of list)
+good V4 = let r = row_of V4 in record {
   generator = g1100d;
   poly_is = refl;
   lawful = lawful 32 r.treads 7 refl (lit≤ tt) refl refl refl;
   admits = all_admitted 32 g1100d r.treads refl;
 }
-good (suc zero) h = let r = get_or rows 1 v4 in record {
+good V4Small = let r = row_of V4Small in record {
   generator = g11d;
   poly_is = refl;
   lawful = lawful 32 r.treads 4 refl (lit≤ tt) refl refl refl;
   admits = all_admitted 32 g11d r.treads refl;
 }
-good (suc (suc zero)) h = let r = get_or rows 2 v4 in record {
+good V6 = let r = row_of V6 in record {
   generator = g1100d;
   poly_is = refl;
   lawful = lawful 128 r.treads 8 refl (lit≤ tt) refl refl refl;
   admits = all_admitted 128 g1100d r.treads refl;
 }
-good (suc (suc (suc i))) h = absurd (omega arith)

@@ -1,8 +1,9 @@
 -- What the check of a layout answers. Assumes nothing.
-use Rattle.std.specs.Prelude.{◌≡◌, ℕ, List, take, Ok, Err, Result}
+use Rattle.std.specs.Prelude.{◌≡◌, ℕ, List, Ok, Err, Result}
 use Rattle.gf2.specs.Poly.{IsGenerator}
 use Rattle.gf2.specs.declared.generator.Generator.{Generator}
 use Rattle.layout.specs.Treads.{Lawful, AllAdmitted, FirstUnadmitted}
+use Rattle.layout.specs.TreadLists.{lengths_of}
 use Rattle.layout.specs.declared.width.Width.{Width}
 use Rattle.layout.specs.declared.layout.Layout.{Layout}
 use Rattle.layout.specs.declared.layout.LayoutRefusal.{LayoutRefusal}
@@ -14,12 +15,16 @@ number_of NotAGenerator = 1
 number_of UnlawfulTreads = 2
 number_of (Unadmitted w) = 3
 
+-- the width of its addresses
+abbrev pub width_of : Layout → Width
+width_of layout = layout.treads.width
+
 abbrev pub treads_of : Layout → List ℕ
-treads_of layout = take layout.count layout.lengths
+treads_of layout = lengths_of layout.treads
 
 -- the layout that was asked for
 pub record Passed (W : Width) (poly : ℕ) (ts : List ℕ) (layout : Layout) : Type 0 where
-  pub width : layout.width ≡ W
+  pub width : width_of layout ≡ W
   pub generator : layout.generator.poly ≡ poly
   pub treads : treads_of layout ≡ ts
   pub lawful : Lawful W.bits ts

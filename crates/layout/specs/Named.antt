@@ -1,7 +1,9 @@
 -- The named lists. Assumes nothing.
-use Rattle.std.specs.Prelude.{◌≡◌, ℕ, ◌<◌, List, [], ◌∷◌, codes, slice_index_or}
-use Rattle.layout.specs.Layouts.{treads_of}
+use Rattle.std.specs.Prelude.{◌≡◌, ℕ, List, [], ◌∷◌, codes}
+use Rattle.layout.specs.Layouts.{treads_of, width_of}
 use Rattle.layout.specs.declared.layout.Layout.{Layout}
+use Rattle.layout.specs.declared.named.ListName.{ListName}
+use Rattle.layout.specs.declared.named.ListName.TheVariants.{V4, V4Small, V6}
 
 pub record Row : Type 0 where
   pub name : List ℕ
@@ -9,28 +11,21 @@ pub record Row : Type 0 where
   pub generator : ℕ
   pub treads : List ℕ
 
-abbrev pub v4 : Row
-v4 = record { name = codes "v4"; bits = 32; generator = 0x1100D; treads = 0 ∷ 8 ∷ 12 ∷ 16 ∷ 20 ∷ 24 ∷ 28 ∷ 32 ∷ [] }
+abbrev pub row_of : ListName → Row
+row_of V4 = record { name = codes "v4"; bits = 32; generator = 0x1100D; treads = 0 ∷ 8 ∷ 12 ∷ 16 ∷ 20 ∷ 24 ∷ 28 ∷ 32 ∷ [] }
+row_of V4Small = record { name = codes "v4-small"; bits = 32; generator = 0x11D; treads = 0 ∷ 8 ∷ 16 ∷ 20 ∷ 24 ∷ [] }
+row_of V6 = record { name = codes "v6"; bits = 128; generator = 0x1100D; treads = 0 ∷ 16 ∷ 32 ∷ 48 ∷ 64 ∷ 80 ∷ 96 ∷ 104 ∷ 112 ∷ [] }
 
-abbrev v4_small : Row
-v4_small = record { name = codes "v4-small"; bits = 32; generator = 0x11D; treads = 0 ∷ 8 ∷ 16 ∷ 20 ∷ 24 ∷ [] }
+-- the list goes by the name
+abbrev pub HasName : ListName → List ℕ → Type 0
+HasName list name = (row_of list).name ≡ name
 
-abbrev v6 : Row
-v6 = record { name = codes "v6"; bits = 128; generator = 0x1100D; treads = 0 ∷ 16 ∷ 32 ∷ 48 ∷ 64 ∷ 80 ∷ 96 ∷ 104 ∷ 112 ∷ [] }
-
-abbrev pub rows : List Row
-rows = v4 ∷ v4_small ∷ v6 ∷ []
-
--- row i has the name
-abbrev pub HasName : ℕ → List ℕ → Type 0
-HasName i name = (i < 3) × ((slice_index_or rows i v4).name ≡ name)
-
--- no row has it
+-- no list does
 abbrev pub NoName : List ℕ → Type 0
-NoName name = (i : ℕ) → HasName i name → ⊥
+NoName name = (list : ListName) → HasName list name → ⊥
 
--- the layout is that of row i
-pub record IsRow (i : ℕ) (layout : Layout) : Type 0 where
-  pub width : layout.width.bits ≡ (slice_index_or rows i v4).bits
-  pub generator : layout.generator.poly ≡ (slice_index_or rows i v4).generator
-  pub treads : treads_of layout ≡ (slice_index_or rows i v4).treads
+-- the layout is that of the list
+pub record IsRow (list : ListName) (layout : Layout) : Type 0 where
+  pub width : (width_of layout).bits ≡ (row_of list).bits
+  pub generator : layout.generator.poly ≡ (row_of list).generator
+  pub treads : treads_of layout ≡ (row_of list).treads

@@ -1,16 +1,21 @@
 -- Tread lists and home treads. A tread is a prefix length at which routes may stand; a tread list has those of one
 -- table, shortest first. Assumes nothing.
-use Rattle.std.specs.Prelude.{◌≡◌, ℕ, suc, ◌<◌, ◌≤◌, max, Bool, true, false, cond, List, [], ◌∷◌, length, nat_le, slice_index, slice_index_or}
+use Rattle.std.specs.Prelude.{◌≡◌, ℕ, ◌<◌, ◌≤◌, max, Bool, true, false, cond, List, [], ◌∷◌, length, nat_le, slice_index}
+use Rattle.std.specs.List.Sorted.{IsStrictlyIncreasing}
 use Rattle.gf2.specs.declared.generator.Generator.{Generator}
 use Rattle.layout.specs.Admission.{admitted}
+
+-- no length is above W
+abbrev pub Within : ℕ → List ℕ → Type 0
+Within W ts = (i : ℕ) → i < length ts → slice_index ts i ≤ W
 
 -- 1 to 40 lengths that begin with 0, rise strictly and never pass W
 pub record Lawful (W : ℕ) (ts : List ℕ) : Type 0 where
   pub some : 1 ≤ length ts
   pub few : length ts ≤ 40
-  pub begins : slice_index_or ts 0 0 ≡ 0
-  pub rises : (i : ℕ) → suc i < length ts → slice_index ts i < slice_index ts (suc i)
-  pub within : (i : ℕ) → i < length ts → slice_index ts i ≤ W
+  pub begins : slice_index ts 0 ≡ 0
+  pub rises : IsStrictlyIncreasing ts
+  pub within : Within W ts
 
 -- the home tread of w: the largest tread not above w
 abbrev pub home_tread : List ℕ → ℕ → ℕ

@@ -1,11 +1,26 @@
-// Whether prefixes of some length may stand under a tread.
+// Where a prefix stands under a tread, and whether prefixes of its length may.
 ghost use Rattle.std.specs.Prelude.{◌≡◌, ℕ, ◌-◌, ◌^◌, ◌<◌, ◌≤◌};
-ghost use Rattle.layout.specs.Admission.{admitted, keeps_apart, Exact, digest};
+ghost use Rattle.layout.specs.Admission.{admitted, keeps_apart, Exact, colony, digest};
 
 use crate::width::Width;
 use gf2::generator::Generator;
 
 impl Width {
+    // The number of the bucket in which a prefix with that address stands under the tread.
+    pub fn colony(&self, generator: &Generator, address: u128, tread: u8) -> u32
+        ensures { result ≡ colony self.now.bits generator.now address tread }
+    {
+        generator.divide(self.round(address, tread)).remainder
+    }
+
+    // What its entry holds there.
+    pub fn digest(&self, generator: &Generator, address: u128, tread: u8) -> u128
+        ensures { result ≡ digest self.now.bits generator.now address tread }
+    {
+        let whole = generator.divide(address);
+        whole.quotient ^ whole.remainder as u128 ^ self.colony(generator, address, tread) as u128
+    }
+
     // Whether prefixes of that length may stand under the tread: just where no two of them are confused there.
     pub fn admits(&self, generator: &Generator, length: u8, tread: u8) -> bool
         ensures value { result ≡ admitted self.now.bits generator.now length tread }

@@ -1,27 +1,18 @@
-// A layout: a width, a generator and a tread list under which every length is admitted at its home tread.
-ghost use Rattle.std.specs.Prelude.{◌≡◌, ℕ, suc, ◌<◌, ◌≤◌, true, length, take, slice_index};
-ghost use Rattle.layout.specs.Treads.{admitted_at_home};
+// A layout: a generator and a tread list under which every length is admitted at its home tread.
+ghost use Rattle.std.specs.Prelude.{◌≡◌, ℕ, ◌≤◌, true, take};
+ghost use Rattle.layout.specs.Treads.{AllAdmitted};
 
-use crate::treads::MAX_TREADS;
-use crate::width::Width;
+use crate::treads::TreadList;
 use gf2::generator::Generator;
 
 mod check;
 
 #[derive(Clone, Copy)]
 pub struct Layout {
-    width: Width,
     generator: Generator,
-    // the treads are the first `count`
-    lengths: [u8; MAX_TREADS],
-    count: usize,
-    ghost room: { count ≤ 40 },
-    ghost some: { 1 ≤ length (take count lengths) },
-    ghost few: { length (take count lengths) ≤ 40 },
-    ghost begins: { slice_index (take count lengths) 0 ≡ 0 },
-    ghost rises: { (i : ℕ) → suc i < length (take count lengths) → slice_index (take count lengths) i < slice_index (take count lengths) (suc i) },
-    ghost within: { (i : ℕ) → i < length (take count lengths) → slice_index (take count lengths) i ≤ width.bits },
-    ghost admits: { (w : ℕ) → w ≤ width.bits → admitted_at_home width.bits generator (take count lengths) w ≡ true },
+    // the list knows the width of the addresses
+    treads: TreadList,
+    ghost admits: { AllAdmitted treads.width.bits generator (take treads.count treads.lengths) },
 }
 
 // The question of the check that was answered 'no'.

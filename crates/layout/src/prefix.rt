@@ -1,19 +1,17 @@
 // A prefix: an address of some width and a length, with all bits after the first `length` zero.
-ghost use Rattle.std.specs.Prelude.{◌≡◌, ◌-◌, ◌%◌, ◌^◌, ◌<◌, ◌≤◌};
+ghost use Rattle.layout.specs.Addresses.{IsPrefix};
 
 use crate::width::Width;
 
 mod colonies;
 mod methods;
 
-#[derive(Clone, Copy)]
+#[derive(Clone, Copy, PartialEq, Eq, Debug)]
 pub struct Prefix {
     width: Width,
     address: u128,
     length: u8,
-    ghost within: { length ≤ width.bits },
-    ghost fits: { address < 2 ^ width.bits },
-    ghost clear: { address % 2 ^ (width.bits - length) ≡ 0 },
+    ghost prefix: { IsPrefix width.bits address length },
 }
 
 // Why there is no such prefix.

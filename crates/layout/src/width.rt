@@ -2,12 +2,10 @@
 ghost use Rattle.std.specs.Prelude.{◌≡◌, ◌%◌, ◌≤◌, MatchOption};
 ghost use Rattle.layout.specs.Addresses.{IsWidth, rounded};
 
-#[derive(Clone, Copy)]
+#[derive(Clone, Copy, PartialEq, Eq, Debug)]
 pub struct Width {
     bits: u8,
-    ghost least: { 32 ≤ bits },
-    ghost most: { bits ≤ 128 },
-    ghost whole: { bits % 8 ≡ 0 },
+    ghost is_width: { IsWidth bits },
 }
 
 impl Width {

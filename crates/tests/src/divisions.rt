@@ -4,21 +4,15 @@ use std::test::Fail;
 
 // The product, by shifts: no step of the division is used.
 fn times(factor: u128, poly: u32) -> u128 {
-    let mut product = 0;
-    for k in 0..17u32 {
-        if (poly >> k) % 2 == 1 {
-            product ^= factor << k;
-        }
-    }
-    product
+    (0..17u32)
+        .filter(|k| (poly >> *k) % 2 == 1)
+        .fold(0, |product, k| product ^ (factor << k))
 }
 
 #[test]
 fn quotient_times_generator_plus_remainder(rt: HostRuntime) -> Result<(), Fail> {
     for poly in [0x1100D, 0x11D, 0x13, 0x11, 0x10001, 0x1FFFF] {
-        let Some(generator) = Generator::new(poly) else {
-            return Err(Fail::new("no generator"));
-        };
+        let generator = Generator::new(poly).ok_or("no generator")?;
         let mut dividend = 0x2001_0DB8_0000_0000_0000_0000_C000_0201u128;
         for _ in 0..100 {
             let division = generator.divide(dividend);
@@ -50,9 +44,7 @@ fn exponents(rt: HostRuntime) -> Result<(), Fail> {
         (0x11, 4, 4),
         (0x10001, 16, 16),
     ] {
-        let Some(generator) = Generator::new(poly) else {
-            return Err(Fail::new("no generator"));
-        };
+        let generator = Generator::new(poly).ok_or("no generator")?;
         assert_eq!(rt; generator.poly(), poly);
         assert_eq!(rt; generator.degree(), degree);
         assert_eq!(rt; generator.lowest(), lowest);

@@ -22,8 +22,10 @@ fn ipv4(rt: HostRuntime) {
     ] {
         assert_eq!(rt; address.round(length), Ipv4Address(rounded));
     }
-    assert!(rt; !address.same(Ipv4Address(0x0A44_03FE)));
-    assert!(rt; address.same(Ipv4Address(0x0A44_03FF)));
+    assert_eq!(rt; Ipv4Address::from_bits(address.bits()), address);
+    assert_eq!(rt; Ipv4Address::from_bits(0x1_0A44_03FF), address);
+    assert!(rt; address != Ipv4Address(0x0A44_03FE));
+    assert!(rt; address == Ipv4Address(0x0A44_03FF));
     assert!(rt; is_prefix(Ipv4Address(0x0A44_0300), 24));
     assert!(rt; !is_prefix(Ipv4Address(0x0A44_0300), 22));
     assert!(rt; !is_prefix(Ipv4Address(0), 33));
@@ -45,7 +47,8 @@ fn ipv6(rt: HostRuntime) {
     ] {
         assert_eq!(rt; address.round(length), Ipv6Address(rounded));
     }
-    assert!(rt; !address.same(Ipv6Address(0x2001_0DB8_0000_0000_0001_0000_0000_00FE)));
+    assert_eq!(rt; Ipv6Address::from_bits(address.bits()), address);
+    assert!(rt; address != Ipv6Address(0x2001_0DB8_0000_0000_0001_0000_0000_00FE));
     assert!(rt; covers(address.round(48), 48, address));
     assert!(rt; !is_prefix(address, 127));
     assert!(rt; is_prefix(address, 128));
@@ -53,9 +56,7 @@ fn ipv6(rt: HostRuntime) {
 
 #[test]
 fn buckets_and_digests(rt: HostRuntime) -> Result<(), Fail> {
-    let Some(generator) = Generator::new(0x1100D) else {
-        return Err(Fail::new("no generator"));
-    };
+    let generator = Generator::new(0x1100D).ok_or("no generator")?;
     for address in [Ipv4Address(0x0A00_0000), Ipv4Address(0x0A44_0300)] {
         assert_eq!(rt; colony(address, &generator, 8), 0xD552);
         assert_eq!(rt; digest(address, &generator, 8), 0x0AAA);

@@ -1,16 +1,15 @@
 // The worked figures as the code gives them, refusals of the check, and confused prefixes looked at one by one.
 use gf2::generator::Generator;
 use layout::layout::{Layout, LayoutRefusal};
-use layout::named::{named, row_number};
+use layout::named::{ListName, UnknownList, named};
 use layout::prefix::{Prefix, PrefixFault};
+use layout::treads::TreadList;
 use layout::width::Width;
 use std::test::Fail;
 
 #[test]
 fn divisions_and_digests(rt: HostRuntime) -> Result<(), Fail> {
-    let Some(generator) = Generator::new(0x1100D) else {
-        return Err(Fail::new("no generator"));
-    };
+    let generator = Generator::new(0x1100D).ok_or("no generator")?;
     for (address, quotient, remainder) in [
         (0x0001_0000, 1, 0x100D),
         (0x0A00_0000, 0x0AAA, 0xD552),
@@ -21,9 +20,7 @@ fn divisions_and_digests(rt: HostRuntime) -> Result<(), Fail> {
         assert_eq!(rt; division.remainder, remainder);
     }
     for address in [0x0A00_0000, 0x0A44_0300] {
-        let Ok(prefix) = Prefix::new(Width::IPV4, address, 24) else {
-            return Err(Fail::new("no prefix"));
-        };
+        let prefix = Prefix::new(Width::IPV4, address, 24)?;
         assert_eq!(rt; prefix.digest(&generator, 8), 0x0AAA);
         assert_eq!(rt; prefix.colony(&generator, 8), 0xD552);
     }
@@ -32,9 +29,7 @@ fn divisions_and_digests(rt: HostRuntime) -> Result<(), Fail> {
 
 #[test]
 fn admissions(rt: HostRuntime) -> Result<(), Fail> {
-    let Some(generator) = Generator::new(0x1100D) else {
-        return Err(Fail::new("no generator"));
-    };
+    let generator = Generator::new(0x1100D).ok_or("no generator")?;
     for (bits, length, tread, admitted) in [
         (32, 24, 10, true),
         (32, 24, 9, false),
@@ -48,9 +43,7 @@ fn admissions(rt: HostRuntime) -> Result<(), Fail> {
         (128, 111, 96, false),
         (32, 8, 9, false),
     ] {
-        let Some(width) = Width::new(bits) else {
-            return Err(Fail::new("no width"));
-        };
+        let width = Width::new(bits).ok_or("no width")?;
         assert_eq!(rt; width.admits(&generator, length, tread), admitted);
     }
     Ok(())
@@ -58,10 +51,7 @@ fn admissions(rt: HostRuntime) -> Result<(), Fail> {
 
 // What the check refuses by, or nothing where it passes.
 fn refusal(width: Width, poly: u32, treads: &[u8]) -> Option<LayoutRefusal> {
-    match Layout::check(width, poly, treads) {
-        Ok(_) => None,
-        Err(refusal) => Some(refusal),
-    }
+    Layout::check(width, poly, treads).err()
 }
 
 #[test]
@@ -102,14 +92,36 @@ fn checks(rt: HostRuntime) {
 }
 
 #[test]
-fn names(rt: HostRuntime) {
-    assert_eq!(rt; row_number("v4"), Some(0));
-    assert_eq!(rt; row_number("v4-small"), Some(1));
-    assert_eq!(rt; row_number("v6"), Some(2));
+fn tread_lists(rt: HostRuntime) -> Result<(), Fail> {
+    let list = TreadList::new(Width::IPV4, &[0, 15, 16]).ok_or("no tread list")?;
+    assert_eq!(rt; list.width().bits(), 32);
+    assert_eq!(rt; list.as_slice(), [0, 15, 16].as_slice());
+    for (length, number) in [(0, 0), (14, 0), (15, 1), (16, 2), (32, 2), (255, 2)] {
+        assert_eq!(rt; list.home(length), number);
+    }
+    for treads in [[1, 15, 16], [0, 15, 15], [0, 16, 15], [0, 15, 33]] {
+        assert!(rt; TreadList::new(Width::IPV4, &treads).is_none());
+    }
+    Ok(())
+}
+
+#[test]
+fn names(rt: HostRuntime) -> Result<(), Fail> {
+    for (name, list, row) in [
+        ("v4", ListName::V4, 0),
+        ("v4-small", ListName::V4Small, 1),
+        ("v6", ListName::V6, 2),
+    ] {
+        assert_eq!(rt; name.parse::<ListName>(), Ok(list));
+        assert_eq!(rt; list as usize, row);
+        assert_eq!(rt; list.to_string(rt.alloc())?.as_str(), name);
+        assert!(rt; named(name).is_some());
+    }
     for name in ["", "v", "V4", "v4 ", "v4-smal", "v4-small2", "vpn"] {
-        assert_eq!(rt; row_number(name), None);
+        assert_eq!(rt; name.parse::<ListName>(), Err(UnknownList));
         assert!(rt; named(name).is_none());
     }
+    Ok(())
 }
 
 #[test]
@@ -120,14 +132,9 @@ fn prefixes(rt: HostRuntime) -> Result<(), Fail> {
         (0x0A00_0001, 256, PrefixFault::LengthBeyondWidth),
         (0x0A00_0001, 31, PrefixFault::BitsAfterLength),
     ] {
-        match Prefix::new(Width::IPV4, address, length) {
-            Ok(_) => return Err(Fail::new("a faulty prefix was made")),
-            Err(found) => assert_eq!(rt; found, fault),
-        }
+        assert_eq!(rt; Prefix::new(Width::IPV4, address, length), Err(fault));
     }
-    let Ok(prefix) = Prefix::new(Width::IPV4, 0x0A00_0000, 8) else {
-        return Err(Fail::new("no prefix"));
-    };
+    let prefix = Prefix::new(Width::IPV4, 0x0A00_0000, 8)?;
     assert!(rt; prefix.covers(0x0AFF_FFFF));
     assert!(rt; !prefix.covers(0x0B00_0000));
     Ok(())
@@ -136,10 +143,8 @@ fn prefixes(rt: HostRuntime) -> Result<(), Fail> {
 // Under every list, length and tread: a prefix is named exactly where the length is not admitted, and it is confused.
 #[test]
 fn confusions(rt: HostRuntime) -> Result<(), Fail> {
-    for name in ["v4", "v4-small", "v6"] {
-        let Some(layout) = named(name) else {
-            return Err(Fail::new("no list"));
-        };
+    for list in [ListName::V4, ListName::V4Small, ListName::V6] {
+        let layout = list.layout();
         let width = layout.width();
         let generator = layout.generator();
         for length in 0..=width.bits() {
@@ -152,13 +157,8 @@ fn confusions(rt: HostRuntime) -> Result<(), Fail> {
                 },
                 length,
             );
-            let Ok(prefix) = Prefix::new(width, address, u32::from(length)) else {
-                return Err(Fail::new("no prefix"));
-            };
-            for tread in layout.treads() {
-                if *tread > length {
-                    break;
-                }
+            let prefix = Prefix::new(width, address, u32::from(length))?;
+            for tread in layout.treads().iter().take_while(|tread| **tread <= length) {
                 match prefix.confused_with(&generator, *tread) {
                     Some(other) => {
                         assert!(rt; !width.admits(&generator, length, *tread));

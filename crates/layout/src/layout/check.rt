@@ -1,10 +1,10 @@
 // The check of a layout, and what a checked one tells.
 ghost use Rattle.std.specs.Prelude.{◌≡◌, ◌<◌, length as count, slice_index};
-ghost use Rattle.layout.specs.Layouts.{Verdict, number_of, treads_of};
+ghost use Rattle.layout.specs.Layouts.{Verdict, number_of, treads_of, width_of};
 ghost use Rattle.layout.specs.Treads.{home_tread};
 
 use crate::layout::{Layout, LayoutRefusal};
-use crate::treads::{copied, first_unadmitted, home_number, is_tread_list};
+use crate::treads::TreadList;
 use crate::width::Width;
 use gf2::generator::Generator;
 
@@ -13,27 +13,18 @@ impl Layout {
     pub fn check(width: Width, poly: u32, treads: &[u8]) -> Result<Layout, LayoutRefusal>
         ensures { Verdict width poly treads.now result }
     {
-        let Some(generator) = Generator::new(poly) else {
-            return Err(LayoutRefusal::NotAGenerator);
-        };
-        if !is_tread_list(width, treads) {
-            return Err(LayoutRefusal::UnlawfulTreads);
+        let generator = Generator::new(poly).ok_or(LayoutRefusal::NotAGenerator)?;
+        let treads = TreadList::new(width, treads).ok_or(LayoutRefusal::UnlawfulTreads)?;
+        match treads.first_unadmitted(&generator) {
+            Some(length) => Err(LayoutRefusal::Unadmitted { length }),
+            None => Ok(Layout { generator, treads }),
         }
-        if let Some(length) = first_unadmitted(width, &generator, treads) {
-            return Err(LayoutRefusal::Unadmitted { length });
-        }
-        Ok(Layout {
-            width,
-            generator,
-            lengths: copied(treads),
-            count: treads.len(),
-        })
     }
 
     pub fn width(&self) -> Width
-        ensures { result ≡ self.now.width }
+        ensures { result ≡ width_of self.now }
     {
-        self.width
+        self.treads.width()
     }
 
     pub fn generator(&self) -> Generator
@@ -45,7 +36,7 @@ impl Layout {
     pub fn treads(&self) -> &[u8]
         ensures { result.now ≡ treads_of self.now }
     {
-        &self.lengths[0..self.count]
+        self.treads.as_slice()
     }
 
     // The number of the home tread of that length: the position of the largest tread not above it.
@@ -53,7 +44,7 @@ impl Layout {
         ensures within { result < count (treads_of self.now) }
         ensures home { slice_index (treads_of self.now) result ≡ home_tread (treads_of self.now) length }
     {
-        home_number(self.width.bits(), self.treads(), length)
+        self.treads.home(length)
     }
 }
 

@@ -12,17 +12,14 @@ impl Prefix {
     pub fn colony(&self, generator: &Generator, tread: u8) -> u32
         ensures { result ≡ colony self.now.width.bits generator.now self.now.address tread }
     {
-        generator
-            .divide(self.width.round(self.address, tread))
-            .remainder
+        self.width.colony(generator, self.address, tread)
     }
 
     // What its entry holds there.
     pub fn digest(&self, generator: &Generator, tread: u8) -> u128
         ensures { result ≡ digest self.now.width.bits generator.now self.now.address tread }
     {
-        let whole = generator.divide(self.address);
-        whole.quotient ^ whole.remainder as u128 ^ self.colony(generator, tread) as u128
+        self.width.digest(generator, self.address, tread)
     }
 
     // The other prefix of the same length that leaves the same digest in the same bucket, where the tread does not

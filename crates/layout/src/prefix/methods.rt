@@ -1,5 +1,5 @@
 // Making a prefix, its parts, and what it covers.
-ghost use Rattle.std.specs.Prelude.{◌≡◌, MatchBool};
+ghost use Rattle.std.specs.Prelude.{◌≡◌, ◌↔◌, IsTrue};
 ghost use Rattle.layout.specs.Prefixes.{Covered, Made};
 
 use crate::prefix::{Prefix, PrefixFault};
@@ -48,7 +48,7 @@ impl Prefix {
 
     // Whether the address, rounded to the prefix's length, is the prefix.
     pub fn covers(&self, address: u128) -> bool
-        ensures { MatchBool result (Covered self.now address) (Covered self.now address → ⊥) }
+        ensures { IsTrue result ↔ Covered self.now address }
     {
         let rounded = self.width.round(address, self.length);
         rounded == self.address
