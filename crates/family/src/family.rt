@@ -29,6 +29,7 @@ pub trait Family: Copy + Eq {
         ensures { number result ≡ bits % 2 ^ wide };
 
     // Rounding to the width or beyond leaves the address as it is.
+    #[tactic(auto, using(crate::proofs::Rounded::rounded_fits))]
     fn round(self, length: u8) -> Self
         ensures { result ≡ cleared self length }
     {

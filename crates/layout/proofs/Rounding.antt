@@ -1,7 +1,6 @@
 -- Rounding and multiples of powers of x. Assumes nothing.
 use Rattle.std.proofs.Common.{◌≡◌, ℕ, ◌+◌, ◌-◌, ◌*◌, ◌/◌, ◌%◌, ◌^◌, ◌<◌, ◌≤◌, sym, ap, ◌∙◌, ap₂, mod-eq_of_lt, mul_assoc, arith, pow-add}
-use native.Mathlib.Nat.{mul-mod_left, div-eq_of_lt}
-use native.Mathlib.Decide.{dec_le}
+use native.Mathlib.Nat.{mul-mod_left}
 use lib.Bits.{bit_xor, xor_shr, xor_mod}
 use Rattle.layout.specs.Addresses.{rounded}
 use Rattle.gf2.proofs.Digits.{xor_shl}
@@ -22,7 +21,3 @@ multiple_of x i j h =
 -- a multiple of x^k of degree below k is 0
 pub multiple_below : (k x : ℕ) → x % 2 ^ k ≡ 0 → x < 2 ^ k → x ≡ 0
 multiple_below k x h l = sym (mod-eq_of_lt l) ∙ h
-
--- a number that does not go away under a shift
-pub shr_some : (k x : ℕ) → (x / 2 ^ k ≡ 0 → ⊥) → 2 ^ k ≤ x
-shr_some k x h = elim (dec_le (2 ^ k) x) [ yes l ↦ l | no n ↦ absurd (h (div-eq_of_lt (omega arith))) ]
