@@ -22,6 +22,7 @@ impl Width {
     }
 
     // Whether prefixes of that length may stand under the tread: just where no two of them are confused there.
+    #[tactic(auto, using(crate::proofs::Exactness::exact))]
     pub fn admits(&self, generator: &Generator, length: u8, tread: u8) -> bool
         ensures value { result ≡ admitted self.now.bits generator.now length tread }
         ensures exact { tread ≤ length → length ≤ self.now.bits → Exact self.now.bits generator.now length tread }
@@ -44,6 +45,7 @@ impl Width {
     }
 
     // How many bits the digests of this width have at most.
+    #[tactic(auto, using(crate::proofs::Exactness::digest_lt))]
     pub fn digest_bits(&self, generator: &Generator) -> u8
         ensures value { result ≡ self.now.bits - generator.now.degree }
         ensures bound { (P l : ℕ) → P < 2 ^ self.now.bits → digest self.now.bits generator.now P l < 2 ^ (self.now.bits - generator.now.degree) }

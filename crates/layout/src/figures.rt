@@ -2,6 +2,7 @@
 ghost use Rattle.layout.specs.Figures.{WorkedFigures};
 
 // Does nothing: its contract is that the figures are what the definitions give.
+#[tactic(auto, using(crate::proofs::Tables::worked_figures))]
 pub fn worked_figures()
     ensures { WorkedFigures }
 {}

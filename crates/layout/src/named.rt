@@ -97,6 +97,7 @@ impl ListName {
     }
 
     // The layout that goes by the name.
+    #[tactic(auto, using(crate::proofs::NamedRows::never_refused))]
     pub fn layout(self) -> Layout
         ensures { IsRow self result }
     {

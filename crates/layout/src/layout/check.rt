@@ -10,6 +10,7 @@ use gf2::generator::Generator;
 
 impl Layout {
     // Asks the three questions in their order: the layout, or the first that is answered 'no'.
+    #[tactic(auto, using(gf2::proofs::Exponents::is_generator))]
     pub fn check(width: Width, poly: u32, treads: &[u8]) -> Result<Layout, LayoutRefusal>
         ensures { Verdict width poly treads.now result }
     {

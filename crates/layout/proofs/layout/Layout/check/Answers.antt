@@ -1,14 +1,4 @@
-use Rattle.std.proofs.Common.{rules, subst}
-use Rattle.gf2.specs.Poly.{IsGenerator}
-use Rattle.gf2.proofs.Exponents.{is_generator}
 use Rattle.layout.proofs.layout.Layout.check.Goals as goal
-
-pub returns-in_err-treads : goal.returns-in_err-treads
-returns-in_err-treads c =
-    let poly_is = rw c.in_ok-generator.ensures.ok_part at c.new.ensures in
-    let generator : IsGenerator c.args.poly = subst IsGenerator poly_is (is_generator c.in_ok-generator.generator) in
-    let unlawful = rw c.in_err-treads.ensures.ok_part at c.new-2.ensures in
-    search rules
 
 pub returns-in-Some : goal.returns-in-Some
 returns-in-Some c =
