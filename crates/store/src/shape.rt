@@ -1,9 +1,12 @@
 // The shape of a store, and which writes a store of that shape refuses.
-ghost use Rattle.std.specs.Prelude.{◌≡◌, ◌^◌, ◌<◌, Decides, MatchBool, MatchResult};
+ghost use Rattle.std.specs.Prelude.{◌≡◌, ◌^◌, ◌<◌, Some, Decides, MatchBool, MatchResult};
 ghost use Rattle.store.specs.Shapes.{Inside};
+ghost use Rattle.store.specs.Texts.{refusal_text};
 ghost use Rattle.store.specs.Writes.{Takes, Refused, Fits, Misfit};
 
 use crate::place::{Entry, Place};
+use std::error::Error;
+use std::fmt;
 
 #[derive(Clone, Copy, PartialEq, Eq, Debug)]
 pub struct Shape {
@@ -23,6 +26,22 @@ pub enum WriteRefusal {
     TreadTooHigh,
     HopTooHigh,
 }
+
+impl fmt::Display for WriteRefusal {
+    ghost output = { λ x. Some (refusal_text x) };
+
+    fn fmt<W: fmt::Write>(&self, f: &mut fmt::Formatter<W>) -> fmt::Result {
+        f.write_str(match self {
+            WriteRefusal::NoPlace => "it has no such place",
+            WriteRefusal::DigestTooWide => "the digest is too wide",
+            WriteRefusal::LengthTooLong => "the length is above 128",
+            WriteRefusal::TreadTooHigh => "the tread number is above 39",
+            WriteRefusal::HopTooHigh => "the hop number is above 4095",
+        })
+    }
+}
+
+impl Error for WriteRefusal {}
 
 // No store has more buckets, or more slots in one.
 pub const MAX_BUCKETS: u32 = 65_536;
