@@ -9,6 +9,7 @@ use lines::line::without_end;
 use memory::word::WordStore;
 use placement::listing::listing;
 use placement::placer::Placer;
+use placement::text::AnswerText;
 use std::io::{BufRead, BufReader};
 
 fn main(rt: HostRuntime) -> anyhow::Result<()> {
@@ -30,7 +31,7 @@ fn run(rt: &HostRuntime) -> anyhow::Result<()> {
         if input.read_until(b'\n', &mut line)? == 0 {
             break;
         }
-        rt.println(placer.answer(without_end(&line)))?;
+        rt.println(AnswerText(placer.answer(without_end(&line))))?;
     }
     rt.print(listing(heap, placer.store())?)?;
     Ok(())

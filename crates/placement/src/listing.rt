@@ -3,7 +3,6 @@ ghost use Rattle.std.specs.Prelude.{◌≡◌, ◌<◌, IfOk, Some, string_bytes
 ghost use Rattle.store.specs.Shapes.{Inside};
 ghost use Rattle.placement.specs.Listings.{word_shape, occupied_text, occupied_at, line_of, slot_lines, listing_of};
 
-use crate::text::PlaceText;
 use memory::encoded::Encoded;
 use memory::word::WordStore;
 use notation::hex::HexText;
@@ -12,7 +11,7 @@ use std::fmt;
 use store::bucket_store::BucketStore;
 use store::place::{Entry, Place};
 
-#[derive(Clone, Copy)]
+#[derive(Clone, Copy, PartialEq, Eq, Debug)]
 pub struct Occupied {
     pub place: Place,
     pub word: u64,
@@ -24,15 +23,15 @@ impl fmt::Display for Occupied {
     ghost output = { λ x. Some (occupied_text x) };
 
     fn fmt<W: fmt::Write>(&self, f: &mut fmt::Formatter<W>) -> fmt::Result {
-        let place = PlaceText(self.place);
-        let word = HexText(self.word as u128);
+        let place = self.place;
+        let word = self.word;
         let length = self.entry.length;
         let tread = self.entry.tread;
         let digest = HexText(self.entry.digest);
         let hop = self.entry.hop;
         write!(
             f,
-            "{place}: word 0x{word}: length {length}, tread {tread}, digest 0x{digest}, hop {hop}"
+            "{place}: word 0x{word:x}: length {length}, tread {tread}, digest 0x{digest}, hop {hop}"
         )
     }
 }

@@ -6,6 +6,7 @@ use memory::word::WordStore;
 use placement::listing::listing;
 use placement::placer::{PlaceFault, Placer};
 use placement::placing::Placing;
+use placement::text::AnswerText;
 use std::test::Fail;
 use store::bucket_store::BucketStore;
 use store::interleave::Interleave;
@@ -32,7 +33,7 @@ fn lines(rt: HostRuntime) -> Result<(), Fail> {
             "the length is beyond the width of the address",
         ),
     ] {
-        let answer = placer.answer(line.as_bytes());
+        let answer = AnswerText(placer.answer(line.as_bytes()));
         assert!(rt; answer.to_string(rt.alloc())?.as_str() == text);
     }
     let text = listing(rt.alloc(), placer.store())?;
