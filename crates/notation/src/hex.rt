@@ -20,6 +20,7 @@ impl fmt::Display for HexText {
 }
 
 // Writes groups with colons between.
+#[tactic(auto, using(crate::proofs::HexText::colons_last))]
 pub(crate) fn write_groups<W: fmt::Write>(groups: &[u16], f: &mut fmt::Formatter<W>) -> fmt::Result
     ensures { WritesOnOk W.write_str_gives f.old result (colons groups.now) f.new }
 {

@@ -1,13 +1,8 @@
--- The last group, or the first with its colon and the rest.
+-- The first group with its colon, and the rest.
 use Rattle.std.proofs.Common.{is_ok, ap, arith}
 use Rattle.std.proofs.Output.{has_written_of_eq, has_written_append}
-use Rattle.notation.proofs.HexText.{colons_last, colons_first}
+use Rattle.notation.proofs.HexText.{colons_first}
 use Rattle.notation.proofs.hex.+write_groups.Goals as goal
-
-pub returns-in-len1 : goal.returns-in-len1
-returns-in-len1 g t c = λ plain ok.
-    let written = rw c.in_radix.ensures at c.write.ensures.writes in
-    has_written_of_eq g.W.Write.write_str_gives _ _ _ _ (colons_last c.args.groups.now (omega arith) (omega (arith, c.type_inv.groups 0))) (written plain ok)
 
 pub returns-in_ok-write-in-len1-up : goal.returns-in_ok-write-in-len1-up
 returns-in_ok-write-in-len1-up g t c = λ plain ok.
