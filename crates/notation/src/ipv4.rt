@@ -35,7 +35,7 @@ fn parse_octet(text: &[u8]) -> Option<u8>
 }
 
 // An address that is written in dotted form.
-#[derive(Clone, Copy)]
+#[derive(Clone, Copy, PartialEq, Eq, Debug)]
 pub struct Ipv4Text(pub u32);
 
 impl fmt::Display for Ipv4Text {

@@ -12,7 +12,7 @@ use crate::zero_run::longest_zero_run;
 use std::fmt;
 
 // An address that is written with lower-case digits, no leading zeros, and `::` for the longest run of zeros.
-#[derive(Clone, Copy)]
+#[derive(Clone, Copy, PartialEq, Eq, Debug)]
 pub struct Ipv6Text(pub u128);
 
 impl Ipv6Text {
