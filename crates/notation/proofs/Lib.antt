@@ -7,7 +7,7 @@ pub mod Dotted
 mod GroupSums
 mod ReadGroups
 mod Joining
-mod HexText
+pub mod HexText
 mod ZeroRuns
 mod AddressText
 pub mod RoundTrip

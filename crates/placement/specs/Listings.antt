@@ -1,6 +1,5 @@
 -- The occupied places of a store over words, in words. Assumes nothing.
-use Rattle.std.specs.Prelude.{ℕ, false, zero, suc, ◌+◌, ◌*◌, cond, List, [], ◌∷◌, ◌++◌, length, Some, None, codes, decimal, Option, slice_index}
-use Rattle.std.specs.Fmt.{digits}
+use Rattle.std.specs.Prelude.{ℕ, zero, suc, ◌+◌, ◌*◌, cond, List, [], ◌∷◌, ◌++◌, length, Some, None, codes, decimal, Option, slice_index}
 use Rattle.std.specs.Option.{option_map}
 use Rattle.notation.specs.Hexadecimal.{hex}
 use Rattle.memory.specs.Slices.{filled, slice_shape}
@@ -17,7 +16,7 @@ word_shape words B S = slice_shape 28 (length words) B S
 -- the place, its word, and what that holds
 abbrev pub occupied_text : Occupied → List ℕ
 occupied_text o =
-    place_text o.place ++ (codes ": word 0x" ++ (digits 16 false o.word ++ (codes ": length " ++ (decimal o.entry.length
+    place_text o.place ++ (codes ": word 0x" ++ (hex o.word ++ (codes ": length " ++ (decimal o.entry.length
     ++ (codes ", tread " ++ (decimal o.entry.tread ++ (codes ", digest 0x" ++ (hex o.entry.digest
     ++ (codes ", hop " ++ decimal o.entry.hop)))))))))
 

@@ -48,11 +48,10 @@ impl From<WriteRefusal> for PlaceFault {
 
 impl<S: BucketStore> Placer<S> {
     // The store is emptied first.
-    pub fn new(layout: Layout, store: S) -> Placer<S>
+    pub fn new(layout: Layout, mut store: S) -> Placer<S>
         ensures layout { result.layout ≡ layout }
         ensures emptied { Emptied (S.grid store) (S.grid result.store) }
     {
-        let mut store = store;
         clear(&mut store);
         Placer { layout, store }
     }
