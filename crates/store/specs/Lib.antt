@@ -3,3 +3,4 @@ pub mod Writes
 pub mod Grids
 pub mod Interleaves
 pub mod Texts
+pub mod Places

@@ -1,5 +1,5 @@
 // The shape of a store, and which writes a store of that shape refuses.
-ghost use Rattle.std.specs.Prelude.{◌≡◌, ◌^◌, ◌<◌, Some, Decides, MatchBool, MatchResult};
+ghost use Rattle.std.specs.Prelude.{◌≡◌, ◌^◌, ◌<◌, ◌↔◌, IsTrue, Some, MatchResult};
 ghost use Rattle.store.specs.Shapes.{Inside};
 ghost use Rattle.store.specs.Texts.{refusal_text};
 ghost use Rattle.store.specs.Writes.{Takes, Refused, Fits, Misfit};
@@ -58,7 +58,7 @@ pub const MAX_HOP: u16 = 4_095;
 impl Shape {
     // Whether the place is one of the store's.
     pub fn has(&self, place: Place) -> bool
-        ensures { Decides result (Inside self.now place.bucket place.slot) }
+        ensures { IsTrue result ↔ Inside self.now place.bucket place.slot }
     {
         place.bucket < self.buckets && place.slot < self.slots
     }
@@ -93,7 +93,7 @@ impl Shape {
     }
 
     fn holds_digest(&self, digest: u128) -> bool
-        ensures { MatchBool result (digest < 2 ^ self.now.digest_bits) (digest < 2 ^ self.now.digest_bits → ⊥) }
+        ensures { IsTrue result ↔ (digest < 2 ^ self.now.digest_bits) }
     {
         self.digest_bits >= 128 || digest >> self.digest_bits == 0
     }
