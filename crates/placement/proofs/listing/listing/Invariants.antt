@@ -1,7 +1,8 @@
 use Rattle.std.proofs.Common.{◌≡◌, string_bytes}
-use Rattle.placement.specs.Listings.{bucket_lines}
+use Rattle.std.specs.List.{flat_map}
+use Rattle.placement.specs.Listings.{line_of}
 use Rattle.placement.proofs.listing.listing.Given as goal
 
--- the lines of the buckets before this one
-abbrev pub invariant-loop-bucket : goal.invariant-loop-bucket
-invariant-loop-bucket l = string_bytes l.text ≡ bucket_lines l.store.elements.now l.store.slots l.bucket
+-- the lines of the places so far
+abbrev pub invariant-loop-occupied : goal.invariant-loop-occupied
+invariant-loop-occupied l = string_bytes l.text ≡ flat_map line_of l.yielded
