@@ -23,10 +23,8 @@ impl fmt::Display for Occupied {
 
     fn fmt<W: fmt::Write>(&self, f: &mut fmt::Formatter<W>) -> fmt::Result {
         let Occupied { place, word, entry } = *self;
+        let (length, tread, hop) = (entry.length, entry.tread, entry.hop);
         let digest = HexText(entry.digest);
-        let Entry {
-            hop, length, tread, ..
-        } = entry;
         write!(
             f,
             "{place}: word 0x{word:x}: length {length}, tread {tread}, digest 0x{digest}, hop {hop}"
