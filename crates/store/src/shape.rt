@@ -1,10 +1,11 @@
 // The shape of a store, and which writes a store of that shape refuses.
 ghost use Rattle.std.specs.Prelude.{◌≡◌, ◌^◌, ◌<◌, ◌↔◌, IsTrue, Some, MatchResult};
+ghost use Rattle.store.specs.declared.shape.WriteRefusal.TheVariants.{NoPlace};
 ghost use Rattle.store.specs.Shapes.{Inside};
 ghost use Rattle.store.specs.Texts.{refusal_text};
 ghost use Rattle.store.specs.Writes.{Takes, Refused, Fits, Misfit};
 
-use crate::place::{Entry, Place};
+use crate::place::{Entry, NoPlace, Place};
 use std::error::Error;
 use std::fmt;
 
@@ -43,6 +44,14 @@ impl fmt::Display for WriteRefusal {
 
 impl Error for WriteRefusal {}
 
+impl From<NoPlace> for WriteRefusal {
+    ghost from_gives = { λ _ refusal. refusal ≡ NoPlace };
+
+    fn from(_missing: NoPlace) -> WriteRefusal {
+        WriteRefusal::NoPlace
+    }
+}
+
 // No store has more buckets, or more slots in one.
 pub const MAX_BUCKETS: u32 = 65_536;
 
@@ -63,13 +72,22 @@ impl Shape {
         place.bucket < self.buckets && place.slot < self.slots
     }
 
+    // The same, for `?`.
+    pub fn check_place(&self, place: Place) -> Result<(), NoPlace>
+        ensures { MatchResult result (λ _. Inside self.now place.bucket place.slot) (λ _. ¬ Inside self.now place.bucket place.slot) }
+    {
+        if self.has(place) {
+            Ok(())
+        } else {
+            Err(NoPlace)
+        }
+    }
+
     // Whether the store takes that content at the place: an entry, or nothing.
     pub fn check_write(&self, place: Place, content: Option<Entry>) -> Result<(), WriteRefusal>
         ensures { MatchResult result (λ _. Takes self.now place.bucket place.slot content) (λ e. Refused self.now place.bucket place.slot content e) }
     {
-        if !self.has(place) {
-            return Err(WriteRefusal::NoPlace);
-        }
+        self.check_place(place)?;
         match content {
             Some(entry) => self.check_entry(entry),
             None => Ok(()),
