@@ -9,7 +9,6 @@ mod ReadGroups
 mod Joining
 mod HexText
 mod ZeroRuns
-mod AddressText
 pub mod RoundTrip
 pub mod Reading
 pub mod Accepted

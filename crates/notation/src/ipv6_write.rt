@@ -43,15 +43,14 @@ impl fmt::Display for Ipv6Text {
 fn write_shortened<W: fmt::Write>(groups: &[u16], f: &mut fmt::Formatter<W>) -> fmt::Result
     ensures { WritesOnOk W.write_str_gives f.old result (groups_text groups.now) f.new }
 {
-    let run = longest_zero_run(groups);
-    if !run.is_shortened() {
-        return write_groups(groups, f);
+    match longest_zero_run(groups) {
+        None => write_groups(groups, f),
+        Some(run) => {
+            write_groups(&groups[..run.start], f)?;
+            f.write_str("::")?;
+            write_groups(&groups[run.end..], f)
+        }
     }
-    let start = run.start;
-    let end = run.start + run.len;
-    write_groups(&groups[0..start], f)?;
-    f.write_str("::")?;
-    write_groups(&groups[end..], f)
 }
 
 // The eight groups, the most significant first.
