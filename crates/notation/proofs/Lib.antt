@@ -9,6 +9,7 @@ mod ReadGroups
 mod Joining
 mod HexText
 mod ZeroRuns
+mod Segments
 pub mod RoundTrip
 pub mod Reading
 pub mod Accepted
