@@ -1,12 +1,10 @@
 -- Runs of zeros.
-use Rattle.std.proofs.Common.{◌≡◌, ℕ, zero, suc, ◌+◌, ◌-◌, ◌<◌, ◌≤◌, Bool, true, false, cond, ◌&&◌, eqb, leb, ◌⊎◌, List, [], ◌∷◌, length, take, drop, replicate, Some, None, Option, MatchOption, sym, ap, ◌∙◌, inl, inr, arith}
+use Rattle.std.proofs.Common.{◌≡◌, ℕ, zero, suc, ◌+◌, ◌-◌, ◌<◌, ◌≤◌, Bool, true, false, cond, ◌&&◌, eqb, leb, ◌⊎◌, List, [], ◌∷◌, length, take, drop, replicate, Some, sym, ap, ◌∙◌, inl, inr, arith}
 use Rattle.std.proofs.lemmas.List.{drop-drop, length-replicate}
-use Rattle.std.proofs.lemmas.Bool.{cond-true, cond-false, le-leb, lt-leb, lt-ltb, le-ltb, cases_lt}
+use Rattle.std.proofs.lemmas.Bool.{le-leb, lt-leb, cases_lt}
 use Rattle.std.proofs.lemmas.Bool.Decides.{nat_tests}
-use Rattle.std.specs.Option.{option_map}
-use Rattle.std.specs.declared.ops.Range.{Range}
 use Rattle.notation.specs.Cut.{begins, cut}
-use Rattle.notation.specs.Ipv6Text.{leading_zeros, longest_run, zero_sides}
+use Rattle.notation.specs.Ipv6Text.{leading_zeros, longest_run}
 use Rattle.notation.proofs.Cuts.{cut_at}
 
 longest_le : (gs : List ℕ) (n : ℕ) → ((k : ℕ) → k < length gs → leading_zeros (drop k gs) ≤ n) → longest_run gs ≤ n
@@ -43,24 +41,15 @@ module _ (gs : List ℕ) (seen start end : ℕ) (all : length gs ≡ seen) (l : 
   most : (k : ℕ) → k < length gs → leading_zeros (drop k gs) ≤ end - start
   most k h = l.longest k (omega arith)
 
-  longest_is : end - start ≡ longest_run gs
+  pub longest_is : end - start ≡ longest_run gs
   longest_is = by (cases_lt start end)
     where
       by : (start < end) ⊎ (end ≤ start) → end - start ≡ longest_run gs
       by (inl h) = let a = longest_le gs (end - start) most in let q = l.is_run h in let b = longest_ge gs start (omega arith) in omega arith
       by (inr h) = let a = longest_le gs (end - start) most in omega arith
 
-  run_sides : 2 ≤ end - start → Some (take start gs, drop end gs) ≡ zero_sides gs
-  run_sides h = let q = l.is_run (omega arith) in let len = end - start in let n = longest_run gs in
-      sym (cond-false _ None (cut (replicate n 0) gs) (le-ltb n 2 (omega (arith, longest_is)))
-      ∙ ap (λ m. cut (replicate m 0) gs) (sym longest_is)
+  pub cut_run : start < end → cut (replicate (longest_run gs) 0) gs ≡ Some (take start gs, drop end gs)
+  cut_run h = let q = l.is_run h in let len = end - start in
+      ap (λ m. cut (replicate m 0) gs) (sym longest_is)
       ∙ cut_at (replicate len 0) gs start (omega arith) (λ k p. begins_zeros len (drop k gs) ∙ lt-leb _ _ (l.first k p)) (begins_zeros len (drop start gs) ∙ le-leb _ _ (omega arith))
-      ∙ ap (λ r. Some (take start gs, r)) (ap (λ m. drop m (drop start gs)) (length-replicate len 0) ∙ drop-drop len start gs ∙ ap (λ m. drop m gs) {x = start + len} {y = end} (let o = l.ordered in omega arith)))
-
-  no_sides : end - start < 2 → None ≡ zero_sides gs
-  no_sides h = sym (cond-true _ None (cut (replicate (longest_run gs) 0) gs) (lt-ltb _ 2 (omega (arith, longest_is))))
-
-  -- a run that is kept where it is two groups or more
-  pub kept_sides : (r : Option (Range ℕ)) → MatchOption r (end - start < 2) (λ run. (run ≡ record { start = start; end = end }) × (2 ≤ end - start)) → option_map (λ (run : Range ℕ). (take run.start gs, drop run.end gs)) r ≡ zero_sides gs
-  kept_sides None h = no_sides h
-  kept_sides (Some run) h = ap (λ (run : Range ℕ). Some (take run.start gs, drop run.end gs)) h.0 ∙ run_sides h.1
+      ∙ ap (λ r. Some (take start gs, r)) (ap (λ m. drop m (drop start gs)) (length-replicate len 0) ∙ drop-drop len start gs ∙ ap (λ m. drop m gs) {x = start + len} {y = end} (let o = l.ordered in omega arith))

@@ -7,7 +7,7 @@ ghost use Rattle.notation.specs.Ipv6Text.{groups_of, groups_text, is_mapped, tex
 
 use crate::hex::write_groups;
 use crate::ipv4::Ipv4Text;
-use crate::zero_run::longest_zero_run;
+use crate::zero_run::shortened_run;
 use std::fmt;
 use std::net::Ipv6Addr;
 
@@ -40,7 +40,7 @@ impl fmt::Display for Ipv6Text {
 fn write_shortened<W: fmt::Write>(groups: &[u16], f: &mut fmt::Formatter<W>) -> fmt::Result
     ensures { WritesOnOk W.write_str_gives f.old result (groups_text groups.now) f.new }
 {
-    match longest_zero_run(groups) {
+    match shortened_run(groups) {
         None => write_groups(groups, f),
         Some(run) => {
             write_groups(&groups[..run.start], f)?;

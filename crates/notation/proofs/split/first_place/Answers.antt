@@ -1,5 +1,5 @@
 -- `find` tries each place in turn.
-use Rattle.std.proofs.Common.{◌≡◌, ℕ, ◌-◌, Bool, true, false, eqb, List, length, take, drop, sym, ap, ◌∙◌, rules}
+use Rattle.std.proofs.Common.{◌≡◌, ℕ, ◌-◌, Bool, true, false, eqb, List, length, take, drop, sym, ap, ◌∙◌, arith, rules}
 use Rattle.std.specs.List.{starts_with}
 use Rattle.std.proofs.lemmas.Slice.Eq.{starts_is}
 use Rattle.std.proofs.lemmas.List.{take_rest}
@@ -16,6 +16,6 @@ starts text mark start r h = sym (begins_is mark _ r (starts_is Decides-eqb _ ma
 pub returns : goal.returns
 returns c =
     let text = c.args.text.now in let mark = c.args.mark.now in
-    cut_from_place mark text c.find.result
+    cut_from_place mark text _ c.find.result
     (first_from_Range _ _ _ _ (λ i. begins mark (drop i text) ≡ true) (λ i. begins mark (drop i text) ≡ false) c.find.ensures.ran
-    (λ i q k. starts text mark i true (search rules)) (λ i q k. (search rules, starts text mark i false (search rules))))
+    (λ i q k. starts text mark i true (search rules)) (λ i q k. (search rules, starts text mark i false (search rules)))) (omega arith)

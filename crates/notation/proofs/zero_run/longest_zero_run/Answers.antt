@@ -1,9 +1,10 @@
--- The longest run, if it is kept.
-use Rattle.std.proofs.Common.{◌≡◌, length, arith, rules}
-use Rattle.notation.proofs.ZeroRuns.{kept_sides}
+-- Every place was seen.
+use Rattle.std.proofs.Common.{arith}
+use Rattle.notation.proofs.ZeroRuns.{longest_is, cut_run}
 use Rattle.notation.proofs.zero_run.longest_zero_run.Goals as goal
 
-pub returns-clause-sides : goal.returns-clause-sides
-returns-clause-sides c =
-    let all : length c.args.groups.now ≡ c.loop-start.start = omega arith in
-    kept_sides _ _ _ _ all c.loop-start.invariant c.filter.result (search rules)
+pub returns-clause-longest : goal.returns-clause-longest
+returns-clause-longest c = longest_is _ _ _ _ (omega arith) c.loop-start.invariant
+
+pub returns-clause-first : goal.returns-clause-first
+returns-clause-first c = cut_run _ _ _ _ (omega arith) c.loop-start.invariant
