@@ -1,6 +1,7 @@
 -- Where `cut` cuts.
-use Rattle.std.proofs.Common.{◌≡◌, ℕ, zero, suc, ◌<◌, ◌≤◌, Bool, true, false, cond, eqb, List, [], ◌∷◌, ◌++◌, length, take, drop, Some, None, Option, sym, refl, ap, ◌∙◌, subst, arith}
+use Rattle.std.proofs.Common.{◌≡◌, ℕ, zero, suc, ◌<◌, ◌≤◌, Bool, true, false, cond, eqb, List, [], ◌∷◌, ◌++◌, length, take, drop, Some, None, Option, sym, refl, ap, ◌∙◌, subst, arith, length-append, ◌+◌, MatchOption}
 use Rattle.std.proofs.lemmas.Bool.{and_parts, and_from, and_left, eq-eqb, ne_eqb, eqb-true, cond-true, cond-false, false≢true}
+use Rattle.std.proofs.lemmas.List.{drop-drop, length-drop}
 use Rattle.std.specs.Option.{option_map}
 use Rattle.std.specs.Str.Parse.{AllDigits}
 use Rattle.std.specs.Char.{digit_value}
@@ -40,6 +41,17 @@ cut_none mark [] before = refl
 cut_none mark (c ∷ cs) before =
     cond-false _ (Some ([], drop (length mark) (c ∷ cs))) _ (before 0 (omega arith))
     ∙ ap (option_map (λ (p : List ℕ × List ℕ). (c ∷ p.0, p.1))) (cut_none mark cs (λ k l. before (suc k) (omega arith)))
+
+-- the first place of the mark, or none, tells how `cut` cuts, if every place from the beginning was tried
+pub cut_from_place : (mark text : List ℕ) (from : ℕ) (r : Option ℕ)
+    → MatchOption r ((k : ℕ) → from ≤ k → k < length text → begins mark (drop k text) ≡ false) (λ i. (from ≤ i) × (i < length text) × (begins mark (drop i text) ≡ true) × ((k : ℕ) → from ≤ k → k < i → begins mark (drop k text) ≡ false))
+    → from ≡ 0 → MatchOption r (cut mark text ≡ None) (λ i. (i + length mark ≤ length text) × (cut mark text ≡ Some (take i text, drop (i + length mark) text)))
+cut_from_place mark text from None none z = cut_none mark text (λ k h. none k (omega arith) h)
+cut_from_place mark text from (Some i) found z =
+    let joins = begins_true mark (drop i text) found.2 in (
+      omega (arith, found.1, ap length joins, length-append mark (drop (length mark) (drop i text)), length-drop i text),
+      cut_at mark text i found.1 (λ k h. found.3 k (omega arith) h) found.2 ∙ ap (λ l. Some (take i text, l)) (drop-drop (length mark) i text),
+    )
 
 -- the text is what stands before the mark, the mark, and what stands after it
 pub cut_joins : (mark text l r : List ℕ) → cut mark text ≡ Some (l, r) → text ≡ l ++ (mark ++ r)

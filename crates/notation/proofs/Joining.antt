@@ -24,7 +24,7 @@ joined_around ls rs = ap (λ n. then_some (leb n 7) (number_from_digits (2 ^ 16)
         ap (λ b. then_some b (number_from_digits (2 ^ 16) ls * 65536 ^ (8 - (0 + length ls)) + number_from_digits (2 ^ 16) rs)) f
         ∙ sym (ap (λ b. then_some b (number_from_digits (2 ^ 16) (ls ++ (replicate (8 - (length ls + length rs)) 0 ++ rs)))) f)
 
-pub joined_is : (left right : Option (List ℕ)) (l r : ℕ × ℕ) → Some l ≡ and_then left (total 0 0) → Some r ≡ and_then right (total 0 0) → joined l r ≡ and_then left (λ ls. and_then right (λ rs. around ls rs))
+pub joined_is : (left right : Option (List ℕ)) (l r : ℕ × ℕ) → Some l ≡ and_then left (total (0, 0)) → Some r ≡ and_then right (total (0, 0)) → joined l r ≡ and_then left (λ ls. and_then right (λ rs. around ls rs))
 joined_is None right l r e f = absurd (none≢some _ (sym e))
 joined_is (Some ls) None l r e f = absurd (none≢some _ (sym f))
 joined_is (Some ls) (Some rs) l r e f = (λ i. joined (sym (when_true_some _ (sym e)).1 i) (sym (when_true_some _ (sym f)).1 i)) ∙ joined_around ls rs

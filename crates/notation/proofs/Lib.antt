@@ -9,7 +9,7 @@ mod ReadGroups
 mod Joining
 pub mod HexText
 mod ZeroRuns
-mod AddressText
+mod Segments
 pub mod RoundTrip
 pub mod Reading
 pub mod Accepted

@@ -27,6 +27,6 @@ read_after mixed piece (c ∷ cs) = cond (c == colon) (and_then (read_group piec
 abbrev pub read_groups : Bool → List ℕ → Option (List ℕ)
 read_groups mixed text = read_after mixed [] text
 
--- `count` groups that write `value`, with more groups after them: how many there are, if they are at most eight, and what they write
-abbrev pub total : ℕ → ℕ → List ℕ → Option (ℕ × ℕ)
-total count value groups = then_some (nat_le (count + length groups) 8) (count + length groups, number_from_digits_after (2 ^ 16) value groups)
+-- groups that are given by how many they are and what they write, with more after them: the same of all of them, if they are at most eight
+abbrev pub total : ℕ × ℕ → List ℕ → Option (ℕ × ℕ)
+total begun groups = then_some (nat_le (begun.0 + length groups) 8) (begun.0 + length groups, number_from_digits_after (2 ^ 16) begun.1 groups)
