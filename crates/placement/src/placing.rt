@@ -45,7 +45,7 @@ fn read_number_and_space(text: &[u8]) -> Option<(u16, &[u8])>
     Some((read_number(number)?, rest))
 }
 
-// A decimal number that fits a hop.
+// A decimal number from 0 to 65,535.
 fn read_number(text: &[u8]) -> Option<u16>
     ensures { result ≡ read_number text.now }
 {
