@@ -1,5 +1,5 @@
 // Stores over the caller's memory, with one element at each place.
-ghost use Rattle.std.specs.Prelude.{◌≡◌, ◌+◌, ◌*◌, ◌/◌, ◌<◌, length, OnErr, slice_set};
+ghost use Rattle.std.specs.Prelude.{◌≡◌, ◌+◌, ◌*◌, ◌/◌, ◌<◌, ◌||◌, ◌&&◌, ◌==◌, IsTrue, length, OnErr};
 ghost use Rattle.std.specs.Bool.{then_some};
 ghost use Rattle.store.specs.Grids.{Writes};
 ghost use Rattle.store.specs.Shapes.{Inside};
@@ -16,6 +16,8 @@ pub struct SliceStore<'a, T: Encoded> {
     elements: &'a mut [T],
     buckets: u32,
     slots: u32,
+    // the elements fill the buckets exactly, or there are no places
+    ghost whole: { IsTrue (filled (length elements.now) buckets slots || (buckets == 0 && slots == 0)) },
 }
 
 impl<'a, T: Encoded> SliceStore<'a, T> {
@@ -38,17 +40,6 @@ impl<'a, T: Encoded> SliceStore<'a, T> {
         }
     }
 
-    // Whether the elements fill the buckets exactly. No invariant of the type may say so beside a `&mut`, so every
-    // call asks again.
-    fn is_filled(&self) -> bool
-        ensures { result ≡ filled (length self.now.elements.now) self.now.buckets self.now.slots }
-    {
-        (1 <= self.slots)
-            & (self.slots <= MAX_SLOTS)
-            & (self.buckets <= MAX_BUCKETS)
-            & (self.elements.len() as u64 == self.buckets as u64 * self.slots as u64)
-    }
-
     // The element of a place that the store has.
     fn index(&self, place: Place) -> usize
         requires { Inside (slice_shape T.encoding.bits (length self.now.elements.now) self.now.buckets self.now.slots) place.bucket place.slot }
@@ -62,20 +53,9 @@ impl<'a, T: Encoded> SliceStore<'a, T> {
     pub fn element(&self, place: Place) -> Option<T>
         ensures { IsElement T.encoding self.now.elements.now self.now.buckets self.now.slots place.bucket place.slot result }
     {
-        if !self.shape().has(place) {
-            return None;
-        }
-        let index = self.index(place);
-        let elements: &[T] = self.elements;
-        Some(elements[index])
+        self.shape().check_place(place).ok()?;
+        Some(self.elements[self.index(place)])
     }
-}
-
-fn put<T: Copy>(elements: &mut [T], index: usize, element: T)
-    requires { index < length elements.old }
-    ensures { elements.new ≡ slice_set elements.old index element }
-{
-    elements[index] = element;
 }
 
 // How many buckets of that many slots the elements fill, where they fill them exactly and the store may have so many.
@@ -97,29 +77,15 @@ impl<'a, T: Encoded> BucketStore for SliceStore<'a, T> {
     ghost grid = { λ s. slice_grid T.encoding s.elements.now s.buckets s.slots };
 
     fn shape(&self) -> Shape {
-        let digest_bits = T::digest_bits();
-        if self.is_filled() {
-            Shape {
-                buckets: self.buckets,
-                slots: self.slots,
-                digest_bits,
-            }
-        } else {
-            Shape {
-                buckets: 0,
-                slots: 0,
-                digest_bits,
-            }
+        Shape {
+            buckets: self.buckets,
+            slots: self.slots,
+            digest_bits: T::digest_bits(),
         }
     }
 
     fn read(&self, place: Place) -> Result<Option<Entry>, NoPlace> {
-        if !self.shape().has(place) {
-            return Err(NoPlace);
-        }
-        let index = self.index(place);
-        let elements: &[T] = self.elements;
-        Ok(elements[index].decode())
+        self.element(place).map(T::decode).ok_or(NoPlace)
     }
 
     fn write(&mut self, place: Place, content: Option<Entry>) -> Result<(), WriteRefusal>
@@ -129,7 +95,7 @@ impl<'a, T: Encoded> BucketStore for SliceStore<'a, T> {
     {
         self.shape().check_write(place, content)?;
         let index = self.index(place);
-        put(self.elements, index, T::encode(content));
+        self.elements[index] = T::encode(content);
         Ok(())
     }
 }
