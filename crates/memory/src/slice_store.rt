@@ -23,7 +23,7 @@ pub struct SliceStore<'a, T: Encoded> {
 impl<'a, T: Encoded> SliceStore<'a, T> {
     // The store of that many slots in each bucket. Where they do not fill the memory exactly it has no places.
     pub fn new(elements: &'a mut [T], slots: u32) -> SliceStore<'a, T>
-        ensures meaning { Over T.encoding elements.old slots (slice_grid T.encoding result.elements.now result.buckets result.slots) }
+        ensures meaning { Over T.encoding elements.old slots (⟦<Self as BucketStore>⟧.grid result) }
         ensures memory { result.elements.now ≡ elements.old }
     {
         match buckets_filled(elements.len(), slots) {
@@ -42,7 +42,7 @@ impl<'a, T: Encoded> SliceStore<'a, T> {
 
     // The element of a place that the store has.
     fn index(&self, place: Place) -> usize
-        requires { Inside (slice_shape T.encoding.bits (length self.now.elements.now) self.now.buckets self.now.slots) place.bucket place.slot }
+        requires { Inside (⟦<Self as BucketStore>⟧.grid self.now).shape place.bucket place.slot }
         ensures value { result ≡ place.bucket * self.now.slots + place.slot }
         ensures bound { result < length self.now.elements.now }
     {
@@ -89,7 +89,7 @@ impl<'a, T: Encoded> BucketStore for SliceStore<'a, T> {
     }
 
     fn write(&mut self, place: Place, content: Option<Entry>) -> Result<(), WriteRefusal>
-        ensures meaning { Writes (slice_grid T.encoding self.old.elements.now self.old.buckets self.old.slots) place.bucket place.slot content result (slice_grid T.encoding self.new.elements.now self.new.buckets self.new.slots) }
+        ensures meaning { Writes (⟦<Self as BucketStore>⟧.grid self.old) place.bucket place.slot content result (⟦<Self as BucketStore>⟧.grid self.new) }
         ensures refused { OnErr result (self.new ≡ self.old) }
         ensures memory { self.new.elements.now ≡ written self.old.elements.now (place.bucket * self.old.slots + place.slot) (T.encoding.encoded content) result }
     {
