@@ -26,17 +26,14 @@ impl<'a, T: Encoded> SliceStore<'a, T> {
         ensures meaning { Over T.encoding elements.old slots (⟦<Self as BucketStore>⟧.grid result) }
         ensures memory { result.elements.now ≡ elements.old }
     {
-        match buckets_filled(elements.len(), slots) {
-            Some(buckets) => SliceStore {
-                elements,
-                buckets,
-                slots,
-            },
-            None => SliceStore {
-                elements,
-                buckets: 0,
-                slots: 0,
-            },
+        let (buckets, slots) = buckets_filled(elements.len(), slots).map_or(
+            (0, 0),
+            |buckets| (buckets, slots),
+        );
+        SliceStore {
+            elements,
+            buckets,
+            slots,
         }
     }
 
@@ -62,15 +59,9 @@ impl<'a, T: Encoded> SliceStore<'a, T> {
 fn buckets_filled(elements: usize, slots: u32) -> Option<u32>
     ensures { result ≡ then_some (fills elements slots) (elements / slots) }
 {
-    if slots == 0 || slots > MAX_SLOTS {
-        return None;
-    }
-    let slots = slots as usize;
-    if elements % slots == 0 && elements / slots <= MAX_BUCKETS as usize {
-        Some((elements / slots) as u32)
-    } else {
-        None
-    }
+    let buckets = u32::try_from(elements.checked_div(slots as usize)?).ok()?;
+    let whole = elements % slots as usize == 0;
+    (whole && slots <= MAX_SLOTS && buckets <= MAX_BUCKETS).then_some(buckets)
 }
 
 impl<'a, T: Encoded> BucketStore for SliceStore<'a, T> {
