@@ -23,26 +23,23 @@ pub struct SliceStore<'a, T: Encoded> {
 impl<'a, T: Encoded> SliceStore<'a, T> {
     // The store of that many slots in each bucket. Where they do not fill the memory exactly it has no places.
     pub fn new(elements: &'a mut [T], slots: u32) -> SliceStore<'a, T>
-        ensures meaning { Over T.encoding elements.old slots (slice_grid T.encoding result.elements.now result.buckets result.slots) }
+        ensures meaning { Over T.encoding elements.old slots (⟦<Self as BucketStore>⟧.grid result) }
         ensures memory { result.elements.now ≡ elements.old }
     {
-        match buckets_filled(elements.len(), slots) {
-            Some(buckets) => SliceStore {
-                elements,
-                buckets,
-                slots,
-            },
-            None => SliceStore {
-                elements,
-                buckets: 0,
-                slots: 0,
-            },
+        let (buckets, slots) = buckets_filled(elements.len(), slots).map_or(
+            (0, 0),
+            |buckets| (buckets, slots),
+        );
+        SliceStore {
+            elements,
+            buckets,
+            slots,
         }
     }
 
     // The element of a place that the store has.
     fn index(&self, place: Place) -> usize
-        requires { Inside (slice_shape T.encoding.bits (length self.now.elements.now) self.now.buckets self.now.slots) place.bucket place.slot }
+        requires { Inside (⟦<Self as BucketStore>⟧.grid self.now).shape place.bucket place.slot }
         ensures value { result ≡ place.bucket * self.now.slots + place.slot }
         ensures bound { result < length self.now.elements.now }
     {
@@ -62,15 +59,9 @@ impl<'a, T: Encoded> SliceStore<'a, T> {
 fn buckets_filled(elements: usize, slots: u32) -> Option<u32>
     ensures { result ≡ then_some (fills elements slots) (elements / slots) }
 {
-    if slots == 0 || slots > MAX_SLOTS {
-        return None;
-    }
-    let slots = slots as usize;
-    if elements % slots == 0 && elements / slots <= MAX_BUCKETS as usize {
-        Some((elements / slots) as u32)
-    } else {
-        None
-    }
+    let buckets = u32::try_from(elements.checked_div(slots as usize)?).ok()?;
+    let whole = elements % slots as usize == 0;
+    (whole && slots <= MAX_SLOTS && buckets <= MAX_BUCKETS).then_some(buckets)
 }
 
 impl<'a, T: Encoded> BucketStore for SliceStore<'a, T> {
@@ -89,7 +80,7 @@ impl<'a, T: Encoded> BucketStore for SliceStore<'a, T> {
     }
 
     fn write(&mut self, place: Place, content: Option<Entry>) -> Result<(), WriteRefusal>
-        ensures meaning { Writes (slice_grid T.encoding self.old.elements.now self.old.buckets self.old.slots) place.bucket place.slot content result (slice_grid T.encoding self.new.elements.now self.new.buckets self.new.slots) }
+        ensures meaning { Writes (⟦<Self as BucketStore>⟧.grid self.old) place.bucket place.slot content result (⟦<Self as BucketStore>⟧.grid self.new) }
         ensures refused { OnErr result (self.new ≡ self.old) }
         ensures memory { self.new.elements.now ≡ written self.old.elements.now (place.bucket * self.old.slots + place.slot) (T.encoding.encoded content) result }
     {
