@@ -15,17 +15,17 @@ use Rattle.store.specs.declared.shape.Shape.{Shape}
 use Rattle.placement.specs.declared.listing.Occupied.{Occupied}
 
 -- the shape of a store over words, which has no places where its buckets do not fill its memory exactly
-abbrev pub shape_of : SliceStore ℕ → Shape
+abbrev pub shape_of : {g : _} → SliceStore ℕ g → Shape
 shape_of store = slice_shape 28 (length store.elements.now) store.buckets store.slots
 
 -- the word of slot s of bucket b, which is word b × slots + s, or that there is no such place
-abbrev pub word_at : SliceStore ℕ → Place → Option ℕ
+abbrev pub word_at : {g : _} → SliceStore ℕ g → Place → Option ℕ
 word_at store p =
     then_some (nat_lt p.bucket (shape_of store).buckets && nat_lt p.slot (shape_of store).slots)
     (slice_index store.elements.now (p.bucket * store.slots + p.slot))
 
 -- what stands there
-abbrev pub occupied_at : SliceStore ℕ → Place → Option Occupied
+abbrev pub occupied_at : {g : _} → SliceStore ℕ g → Place → Option Occupied
 occupied_at store p =
     option_and_then (λ w. option_map (λ (e : Entry). record { place = p; word = w; entry = e }) (word_content w)) (word_at store p)
 
@@ -40,6 +40,10 @@ occupied_text o =
 abbrev pub line_of : Occupied → List ℕ
 line_of o = occupied_text o ++ (10 ∷ [])
 
--- a line for each occupied place, in order of bucket and then slot
-abbrev pub listing_of : SliceStore ℕ → List ℕ
-listing_of store = flat_map line_of (filter_map (occupied_at store) (all_places (shape_of store)))
+-- a line for each of those places that is occupied
+abbrev pub lines_of : {g : _} → SliceStore ℕ g → List Place → List ℕ
+lines_of store places = flat_map line_of (filter_map (occupied_at store) places)
+
+-- the lines of all places, in order of bucket and then slot
+abbrev pub listing_of : {g : _} → SliceStore ℕ g → List ℕ
+listing_of store = lines_of store (all_places (shape_of store))

@@ -1,6 +1,6 @@
 // Every occupied place of a store over words, with its word and what the word holds.
 ghost use Rattle.std.specs.Prelude.{◌≡◌, IfOk, Some, string_bytes};
-ghost use Rattle.placement.specs.Listings.{occupied_text, occupied_at, listing_of};
+ghost use Rattle.placement.specs.Listings.{occupied_text, occupied_at, lines_of, listing_of};
 
 use memory::encoded::Encoded;
 use memory::word::WordStore;
@@ -9,6 +9,7 @@ use std::alloc::{AllocError, Global};
 use std::fmt;
 use store::bucket_store::BucketStore;
 use store::place::{Entry, Place};
+use store::places::Places;
 
 #[derive(Clone, Copy, PartialEq, Eq, Debug)]
 pub struct Occupied {
@@ -36,8 +37,14 @@ impl fmt::Display for Occupied {
 pub fn listing(heap: Global, store: &WordStore) -> Result<String, AllocError>
     ensures { IfOk result (λ s. string_bytes s ≡ listing_of store.now) }
 {
+    lines(heap, store, store.shape().places())
+}
+
+// The lines of those places that are occupied.
+fn lines(heap: Global, store: &WordStore, places: Places) -> Result<String, AllocError>
+    ensures { IfOk result (λ s. string_bytes s ≡ lines_of store.now places) }
+{
     let mut text = String::new(heap);
-    let places = store.shape().places();
     for occupied in places.filter_map(|place| occupant(store, place)) {
         writeln!(text, "{occupied}")?;
     }

@@ -1,7 +1,7 @@
 use Rattle.std.proofs.Common.{◌≡◌, string_bytes}
 use Rattle.std.specs.List.{flat_map}
 use Rattle.placement.specs.Listings.{line_of}
-use Rattle.placement.proofs.listing.listing.Given as goal
+use Rattle.placement.proofs.listing.lines.Given as goal
 
 -- the lines of the places so far
 abbrev pub invariant-loop-occupied : goal.invariant-loop-occupied
