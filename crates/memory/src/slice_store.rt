@@ -26,10 +26,10 @@ impl<'a, T: Encoded> SliceStore<'a, T> {
         ensures meaning { Over T.encoding elements.old slots (⟦<Self as BucketStore>⟧.grid result) }
         ensures memory { result.elements.now ≡ elements.old }
     {
-        let (buckets, slots) = buckets_filled(elements.len(), slots).map_or(
-            (0, 0),
-            |buckets| (buckets, slots),
-        );
+        let (buckets, slots) = match buckets_filled(elements.len(), slots) {
+            Some(buckets) => (buckets, slots),
+            None => (0, 0),
+        };
         SliceStore {
             elements,
             buckets,
