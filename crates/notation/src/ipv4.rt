@@ -8,6 +8,7 @@ use crate::split::split_once;
 use std::fmt;
 
 // The address that the text writes: four octets in decimal, the most significant first, with dots between.
+#[tactic(auto, using(crate::proofs::Dotted::dotted_exact))]
 pub fn parse_ipv4(text: &[u8]) -> Option<u32>
     ensures value { result ≡ read4 text.now }
     ensures written { MatchOption result ((a : ℕ) → a < 2 ^ 32 → dotted a ≢ text.now) (λ a. (a < 2 ^ 32) × (dotted a ≡ text.now)) }
