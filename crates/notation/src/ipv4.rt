@@ -31,8 +31,7 @@ fn parse_octet_and_dot(text: &[u8]) -> Option<(u8, &[u8])>
 fn parse_octet(text: &[u8]) -> Option<u8>
     ensures { result ≡ read_octet text.now }
 {
-    let octet = parse_decimal(text, 255)?;
-    Some(octet as u8)
+    parse_decimal(text, 255).map(|octet| octet as u8)
 }
 
 // An address that is written in dotted form.

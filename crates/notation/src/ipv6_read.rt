@@ -99,6 +99,5 @@ fn parse_group(piece: &[u8]) -> Option<u16>
     if piece.len() > 4 {
         return None;
     }
-    let group = parse_digits(piece, 16, 0xffff)?;
-    Some(group as u16)
+    parse_digits(piece, 16, 0xffff).map(|group| group as u16)
 }
