@@ -1,6 +1,7 @@
 -- How `read_groups` and `total` go on from piece to piece.
 use Rattle.std.proofs.Common.{◌≡◌, ℕ, suc, ◌+◌, ◌*◌, ◌^◌, ◌<◌, ◌≤◌, Bool, true, false, cond, ◌&&◌, eqb, leb, ◌⊎◌, List, [], ◌∷◌, ◌++◌, length, Some, None, Option, sym, refl, ap, ◌∙◌, inl, inr, append_assoc, append-nil, arith}
 use Rattle.std.proofs.lemmas.Bool.{eqb-false, cases_lt, le-leb, lt-leb}
+use Rattle.std.proofs.lemmas.Option.{none-some}
 use Rattle.std.specs.Option.{option_map}
 use Rattle.std.specs.Bool.{then_some}
 use Rattle.std.specs.Int.Digits.{number_from_digits_after}
@@ -8,7 +9,7 @@ use Rattle.notation.specs.Chain.{and_then}
 use Rattle.notation.specs.Cut.{cut}
 use Rattle.notation.specs.Groups.{colon, read_group, read_last, read_after, read_groups, total}
 use Rattle.notation.specs.Ipv6.{read_side}
-use Rattle.notation.proofs.Options.{none≢some, some_inj}
+use Rattle.notation.proofs.Options.{some_inj}
 
 -- one group, and then the others
 pub total_more : (t : ℕ × ℕ) (g : ℕ) (gs : List ℕ) → total t (g ∷ gs) ≡ and_then (total t (g ∷ [])) (λ p. total p gs)
@@ -27,7 +28,7 @@ total_more t g gs = by (cases_lt t.0 8)
         ∙ sym (ap Rest (lt-leb (t.0 + 1) 8 (omega arith)))
 
 pub after_colon : (mixed : Bool) (p text q rest : List ℕ) → cut (colon ∷ []) text ≡ Some (q, rest) → read_after mixed p text ≡ and_then (read_group (p ++ q)) (λ g. option_map (λ gs. g ∷ gs) (read_groups mixed rest))
-after_colon mixed p [] q rest h = absurd (none≢some _ h)
+after_colon mixed p [] q rest h = absurd (none-some _ h)
 after_colon mixed p (c ∷ cs) q rest h = by (eqb c colon) (cut (colon ∷ []) cs) (λ l e. after_colon mixed (p ++ (c ∷ [])) cs l.0 l.1 e) h
   where
     Go : List ℕ × List ℕ → Option (List ℕ)
@@ -35,7 +36,7 @@ after_colon mixed p (c ∷ cs) q rest h = by (eqb c colon) (cut (colon ∷ []) c
 
     by : (b : Bool) (o : Option (List ℕ × List ℕ)) → ((l : List ℕ × List ℕ) → o ≡ Some l → read_after mixed (p ++ (c ∷ [])) cs ≡ and_then (read_group ((p ++ (c ∷ [])) ++ l.0)) (λ g. option_map (λ gs. g ∷ gs) (read_groups mixed l.1))) → cond {A = Option (List ℕ × List ℕ)} (b && true) (Some ([], cs)) (option_map (λ (l : List ℕ × List ℕ). (c ∷ l.0, l.1)) o) ≡ Some (q, rest) → cond b (and_then (read_group p) (λ g. option_map (λ gs. g ∷ gs) (read_after mixed [] cs))) (read_after mixed (p ++ (c ∷ [])) cs) ≡ Go (q, rest)
     by true o rec k = ap (λ l. and_then (read_group l) (λ g. option_map (λ gs. g ∷ gs) (read_groups mixed cs))) (sym (append-nil p)) ∙ ap Go (some_inj k)
-    by false None rec k = absurd (none≢some _ k)
+    by false None rec k = absurd (none-some _ k)
     by false (Some l) rec k = rec l refl ∙ ap (λ t. and_then (read_group t) (λ g. option_map (λ gs. g ∷ gs) (read_groups mixed l.1))) (append_assoc p (c ∷ []) l.0) ∙ ap Go (some_inj k)
 
 pub without_colon : (mixed : Bool) (p text : List ℕ) → cut (colon ∷ []) text ≡ None → read_after mixed p text ≡ read_last mixed (p ++ text)
@@ -43,9 +44,9 @@ without_colon mixed p [] h = ap (read_last mixed) (sym (append-nil p))
 without_colon mixed p (c ∷ cs) h = by (eqb c colon) (cut (colon ∷ []) cs) (without_colon mixed (p ++ (c ∷ [])) cs) h
   where
     by : (b : Bool) (o : Option (List ℕ × List ℕ)) → (o ≡ None → read_after mixed (p ++ (c ∷ [])) cs ≡ read_last mixed ((p ++ (c ∷ [])) ++ cs)) → cond {A = Option (List ℕ × List ℕ)} (b && true) (Some ([], cs)) (option_map (λ (l : List ℕ × List ℕ). (c ∷ l.0, l.1)) o) ≡ None → cond b (and_then (read_group p) (λ g. option_map (λ gs. g ∷ gs) (read_after mixed [] cs))) (read_after mixed (p ++ (c ∷ [])) cs) ≡ read_last mixed (p ++ (c ∷ cs))
-    by true o rec k = absurd (none≢some _ (sym k))
+    by true o rec k = absurd (none-some _ (sym k))
     by false None rec k = rec refl ∙ ap (read_last mixed) (append_assoc p (c ∷ []) cs)
-    by false (Some l) rec k = absurd (none≢some _ (sym k))
+    by false (Some l) rec k = absurd (none-some _ (sym k))
 
 -- a turn of the reader: the piece before the colon, and then the rest
 pub groups_step : (mixed : Bool) (t : ℕ × ℕ) (text q rest : List ℕ) → cut (colon ∷ []) text ≡ Some (q, rest) → and_then (read_groups mixed text) (total t) ≡ and_then (read_group q) (λ g. and_then (total t (g ∷ [])) (λ s. and_then (read_groups mixed rest) (total s)))

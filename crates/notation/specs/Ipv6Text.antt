@@ -1,5 +1,5 @@
 -- How an IPv6 address is written (RFC 5952, sections 4 and 5).
-use Rattle.std.specs.Prelude.{ℕ, zero, suc, ◌/◌, ◌%◌, ◌^◌, max, Bool, cond, List, [], ◌∷◌, ◌++◌, replicate, Some, None, codes, Option, ◌==◌, nat_lt, if◌then◌else◌}
+use Rattle.std.specs.Prelude.{ℕ, zero, suc, ◌/◌, ◌%◌, ◌^◌, max, Bool, List, [], ◌∷◌, ◌++◌, replicate, Some, None, codes, Option, ◌==◌, nat_lt, if◌then◌else◌}
 use Rattle.std.specs.List.{prefix_len}
 use Rattle.notation.specs.Cut.{cut}
 use Rattle.notation.specs.Groups.{colon}
@@ -44,4 +44,4 @@ abbrev pub is_mapped : ℕ → Bool
 is_mapped a = a / 2 ^ 32 == 65535
 
 abbrev pub text6 : ℕ → List ℕ
-text6 a = cond (is_mapped a) (codes "::ffff:" ++ dotted (a % 2 ^ 32)) (groups_text (groups_of 8 a))
+text6 a = if is_mapped a then codes "::ffff:" ++ dotted (a % 2 ^ 32) else groups_text (groups_of 8 a)

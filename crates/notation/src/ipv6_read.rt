@@ -13,6 +13,7 @@ use crate::split::split_once;
 
 // The address that the text writes: eight groups of hexadecimal digits with colons between, of which
 // `::` may stand once for one or more groups of zeros, and the last two may be in dotted form.
+#[tactic(auto, using(crate::proofs::Accepted::address_exact))]
 pub fn parse_ipv6(text: &[u8]) -> Option<u128>
     ensures value { result ≡ read6 text.now }
     ensures written { MatchOption result ((a : ℕ) → Writes a text.now → ⊥) (λ a. Writes a text.now) }
@@ -98,6 +99,5 @@ fn parse_group(piece: &[u8]) -> Option<u16>
     if piece.len() > 4 {
         return None;
     }
-    let group = parse_digits(piece, 16, 0xffff)?;
-    Some(group as u16)
+    parse_digits(piece, 16, 0xffff).map(|group| group as u16)
 }
