@@ -49,6 +49,5 @@ fn read_number_and_space(text: &[u8]) -> Option<(u16, &[u8])>
 fn read_number(text: &[u8]) -> Option<u16>
     ensures { result ≡ read_number text.now }
 {
-    let number = parse_decimal(text, u32::from(u16::MAX))?;
-    u16::try_from(number).ok()
+    parse_decimal(text, u32::from(u16::MAX)).map(|number| number as u16)
 }
