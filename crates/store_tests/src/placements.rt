@@ -15,9 +15,7 @@ use store::shape::WriteRefusal;
 
 #[test]
 fn lines(rt: HostRuntime) -> Result<(), Fail> {
-    let Some(layout) = named("v4-small") else {
-        return Err(Fail::new("no list"));
-    };
+    let layout = named("v4-small").ok_or_else(|| Fail::new("no list"))?;
     let mut words = [u64::MAX; 1024];
     let mut placer = Placer::new(layout, WordStore::new(&mut words, 4));
     for (line, text) in [
@@ -47,9 +45,7 @@ fn lines(rt: HostRuntime) -> Result<(), Fail> {
 // The entry stands where the placer said, in an interleave of four stores of words.
 #[test]
 fn nested_interleaves(rt: HostRuntime) -> Result<(), Fail> {
-    let Some(layout) = named("v4-small") else {
-        return Err(Fail::new("no list"));
-    };
+    let layout = named("v4-small").ok_or_else(|| Fail::new("no list"))?;
     let mut first = [u64::MAX; 256];
     let mut second = [u64::MAX; 256];
     let mut third = [u64::MAX; 256];
