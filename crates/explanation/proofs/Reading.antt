@@ -1,14 +1,15 @@
 -- What a line that is cut at its first space answers. Assumes nothing.
-use Rattle.std.proofs.Common.{◌≡◌, ℕ, zero, suc, ◌-◌, ◌%◌, ◌^◌, ◌<◌, ◌≤◌, cond, eqb, List, [], ◌∷◌, length, get_or, Some, None, Err, codes, IsUtf8, sym, refl, ap, ◌∙◌, subst, ap₂, arith}
+use Rattle.std.proofs.Common.{◌≡◌, ℕ, zero, suc, ◌-◌, ◌%◌, ◌^◌, ◌<◌, ◌≤◌, cond, eqb, List, [], ◌∷◌, length, get_or, Some, None, Ok, Err, Option, Result, MatchResult, codes, IsUtf8, sym, refl, ap, ◌∙◌, subst, ap₂, arith}
 use Rattle.std.proofs.lemmas.Str.{IsUtf8-from_ascii}
 use Rattle.std.proofs.ByRecursion.{IsAscii-from_all}
+use Rattle.std.specs.Result.{result_ok}
 use Rattle.notation.specs.Cut.{cut}
 use Rattle.layout.specs.Named.{rows, v4, NoName, HasName}
 use Rattle.layout.specs.Prefixes.{Made}
 use Rattle.layout.specs.declared.layout.Layout.{Layout}
 use Rattle.layout.specs.declared.prefix.PrefixFault.{PrefixFault}
 use Rattle.layout.specs.declared.prefix.PrefixFault.TheVariants.{AddressBeyondWidth, LengthBeyondWidth, BitsAfterLength}
-use Rattle.explanation.specs.Lines.{read_prefix}
+use Rattle.lines.specs.Prefixes.{read_prefix}
 use Rattle.explanation.specs.Queries.{Placed, Says, Unnamed, Answers, fault_of}
 use Rattle.explanation.specs.declared.query.LineFault.TheVariants.{Unreadable}
 
@@ -18,6 +19,11 @@ named_utf8 zero h = IsUtf8-from_ascii (codes "v4") (IsAscii-from_all (codes "v4"
 named_utf8 (suc zero) h = IsUtf8-from_ascii (codes "v4-small") (IsAscii-from_all (codes "v4-small") (omega arith))
 named_utf8 (suc (suc zero)) h = IsUtf8-from_ascii (codes "v6") (IsAscii-from_all (codes "v6") (omega arith))
 named_utf8 (suc (suc (suc i))) h = absurd (omega arith)
+
+-- what is said where a result that was asked for its value had none
+pub no_text : {T E : Type 0} (P : T → Type 0) (Q : Type 0) (R : E → Type 0) (r : Result T E) → ◌≡◌ {A = Option T} None (result_ok r) → MatchResult r P (λ e. Q × R e) → Q
+no_text P Q R (Ok x) none m = cc
+no_text P Q R (Err e) none m = m.0
 
 pub no_text_no_name : (name : List ℕ) → (IsUtf8 name → ⊥) → NoName name
 no_text_no_name name h i has = h (subst IsUtf8 has.1 (named_utf8 i has.0))

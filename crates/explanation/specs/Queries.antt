@@ -5,7 +5,7 @@ use Rattle.layout.specs.Named.{rows, v4, NoName, HasName, IsRow}
 use Rattle.layout.specs.declared.layout.Layout.{Layout}
 use Rattle.layout.specs.declared.prefix.PrefixFault.{PrefixFault}
 use Rattle.layout.specs.declared.prefix.PrefixFault.TheVariants.{AddressBeyondWidth, LengthBeyondWidth as PrefixTooLong, BitsAfterLength as PrefixUnclear}
-use Rattle.explanation.specs.Lines.{read_prefix}
+use Rattle.lines.specs.Prefixes.{read_prefix}
 use Rattle.explanation.specs.declared.query.Query.{Query}
 use Rattle.explanation.specs.declared.query.LineFault.{LineFault}
 use Rattle.explanation.specs.declared.query.LineFault.TheVariants.{Unreadable, UnknownList, LengthBeyondWidth, BitsAfterLength}

@@ -1,15 +1,20 @@
 -- How a query is answered in words. Assumes nothing.
-use Rattle.std.specs.Prelude.{ℕ, cond, List, [], ◌∷◌, ◌++◌, Some, None, codes, decimal, Option, ◌==◌}
+use Rattle.std.specs.Prelude.{ℕ, if◌then◌else◌, List, [], ◌∷◌, ◌++◌, Some, None, codes, decimal, Option, ◌==◌}
 use Rattle.notation.specs.Ipv4.{dotted}
 use Rattle.notation.specs.Hexadecimal.{hex}
 use Rattle.notation.specs.Ipv6Text.{text6}
 use Rattle.layout.specs.declared.prefix.Prefix.{Prefix}
 use Rattle.explanation.specs.declared.place.Place.{Place}
+use Rattle.explanation.specs.declared.query.Query.{Query}
 use Rattle.explanation.specs.declared.query.LineFault.{LineFault}
 use Rattle.explanation.specs.declared.query.LineFault.TheVariants.{Unreadable, UnknownList, LengthBeyondWidth, BitsAfterLength}
 
 abbrev pub prefix_text : Prefix → List ℕ
-prefix_text p = cond (p.width.bits == 32) (dotted p.address) (text6 p.address) ++ (47 ∷ decimal p.length)
+prefix_text p = (if p.width.bits == 32 then dotted p.address else text6 p.address) ++ (47 ∷ decimal p.length)
+
+-- the prefix and its list's generator
+abbrev pub query_text : Query → List ℕ
+query_text q = prefix_text q.prefix ++ (codes ", generator 0x" ++ hex q.layout.generator.poly)
 
 abbrev pub confused_text : Option Prefix → List ℕ
 confused_text None = []

@@ -1,5 +1,5 @@
 // Where the prefix of a query would stand: a place for each tread from its home tread down.
-ghost use Rattle.std.specs.Prelude.{◌+◌, IfOk};
+ghost use Rattle.std.specs.Prelude.{IfOk};
 ghost use Rattle.explanation.specs.Places.{PlaceOf, PlacesOf};
 
 use crate::query::Query;
@@ -22,12 +22,11 @@ impl Query {
         ensures { IfOk result (λ v. PlacesOf self.now v.items) }
     {
         let home = self.layout.home(self.prefix.length());
-        let mut places = Vec::new(heap);
-        for number in (0..home + 1).rev() {
-            let tread = self.layout.treads()[number];
-            places.push(self.place(tread))?;
-        }
-        Ok(places)
+        self.layout.treads()[..=home]
+            .iter()
+            .rev()
+            .map(|tread| self.place(*tread))
+            .collect(heap)
     }
 
     // The place under a tread.
