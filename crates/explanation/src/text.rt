@@ -1,6 +1,6 @@
 // How a query is answered in words.
 ghost use Rattle.std.specs.Prelude.{Some};
-ghost use Rattle.explanation.specs.Texts.{prefix_text, query_text, place_text, fault_text};
+ghost use Rattle.explanation.specs.Texts.{prefix_text, confused_text, query_text, place_text, fault_text};
 
 use crate::place::Place;
 use crate::query::{LineFault, Query};
@@ -39,15 +39,15 @@ impl fmt::Display for Query {
     }
 }
 
-impl fmt::Display for Place {
-    ghost output = { λ x. Some (place_text x) };
+// What is added to a place where a tread does not admit the prefix.
+#[derive(Clone, Copy)]
+pub struct ConfusedText(pub Option<Prefix>);
+
+impl fmt::Display for ConfusedText {
+    ghost output = { λ x. Some (confused_text x.0) };
 
     fn fmt<W: fmt::Write>(&self, f: &mut fmt::Formatter<W>) -> fmt::Result {
-        let tread = self.tread;
-        let bucket = self.bucket;
-        let digest = HexText(self.digest);
-        write!(f, "tread {tread}: bucket 0x{bucket:x}, digest 0x{digest}")?;
-        match self.confused {
+        match self.0 {
             Some(other) => write!(
                 f,
                 ", not admitted: {} would leave the same digest there",
@@ -55,6 +55,21 @@ impl fmt::Display for Place {
             ),
             None => Ok(()),
         }
+    }
+}
+
+impl fmt::Display for Place {
+    ghost output = { λ x. Some (place_text x) };
+
+    fn fmt<W: fmt::Write>(&self, f: &mut fmt::Formatter<W>) -> fmt::Result {
+        let tread = self.tread;
+        let bucket = self.bucket;
+        let digest = HexText(self.digest);
+        let confused = ConfusedText(self.confused);
+        write!(
+            f,
+            "tread {tread}: bucket 0x{bucket:x}, digest 0x{digest}{confused}"
+        )
     }
 }
 
