@@ -1,16 +1,16 @@
 -- What a line that is cut at its first space answers. Assumes nothing.
-use Rattle.std.proofs.Common.{◌≡◌, ℕ, zero, suc, ◌-◌, ◌%◌, ◌^◌, ◌<◌, ◌≤◌, cond, eqb, List, [], ◌∷◌, length, get_or, Some, None, Err, codes, IsUtf8, sym, refl, ap, ◌∙◌, subst, ap₂, arith}
+use Rattle.std.proofs.Common.{◌≡◌, ℕ, zero, suc, ◌-◌, ◌%◌, ◌^◌, ◌<◌, ◌≤◌, List, [], ◌∷◌, get_or, Some, None, Ok, Err, Option, Result, MatchResult, codes, IsUtf8, sym, ap, ◌∙◌, subst, arith}
 use Rattle.std.proofs.lemmas.Str.{IsUtf8-from_ascii}
 use Rattle.std.proofs.ByRecursion.{IsAscii-from_all}
+use Rattle.std.specs.Result.{result_ok}
 use Rattle.notation.specs.Cut.{cut}
-use Rattle.layout.specs.Named.{rows, v4, NoName, HasName}
+use Rattle.layout.specs.Named.{rows, v4, NoName}
 use Rattle.layout.specs.Prefixes.{Made}
 use Rattle.layout.specs.declared.layout.Layout.{Layout}
 use Rattle.layout.specs.declared.prefix.PrefixFault.{PrefixFault}
 use Rattle.layout.specs.declared.prefix.PrefixFault.TheVariants.{AddressBeyondWidth, LengthBeyondWidth, BitsAfterLength}
-use Rattle.explanation.specs.Lines.{read_prefix}
-use Rattle.explanation.specs.Queries.{Placed, Says, Unnamed, Answers, fault_of}
-use Rattle.explanation.specs.declared.query.LineFault.TheVariants.{Unreadable}
+use Rattle.lines.specs.Prefixes.{read_prefix}
+use Rattle.explanation.specs.Queries.{Placed, Says, Answers, fault_of}
 
 -- the names are text
 named_utf8 : (i : ℕ) → i < 3 → IsUtf8 (get_or rows i v4).name
@@ -19,40 +19,15 @@ named_utf8 (suc zero) h = IsUtf8-from_ascii (codes "v4-small") (IsAscii-from_all
 named_utf8 (suc (suc zero)) h = IsUtf8-from_ascii (codes "v6") (IsAscii-from_all (codes "v6") (omega arith))
 named_utf8 (suc (suc (suc i))) h = absurd (omega arith)
 
+-- what is said where a result that was asked for its value had none
+pub no_text : {T E : Type 0} (P : T → Type 0) (Q : Type 0) (R : E → Type 0) (r : Result T E) → ◌≡◌ {A = Option T} None (result_ok r) → MatchResult r P (λ e. Q × R e) → Q
+no_text P Q R (Ok x) none m = cc
+no_text P Q R (Err e) none m = m.0
+
 pub no_text_no_name : (name : List ℕ) → (IsUtf8 name → ⊥) → NoName name
 no_text_no_name name h i has = h (subst IsUtf8 has.1 (named_utf8 i has.0))
 
--- no two rows have one name: one is longer, and the others differ in their second letter
-abbrev row_of : List ℕ → ℕ
-row_of name = cond (eqb (length name) 8) 1 (cond (eqb (get_or name 1 0) 54) 2 0)
-
-row_of_name : (i : ℕ) → i < 3 → row_of (get_or rows i v4).name ≡ i
-row_of_name zero h = refl
-row_of_name (suc zero) h = refl
-row_of_name (suc (suc zero)) h = refl
-row_of_name (suc (suc (suc i))) h = absurd (omega arith)
-
-same_row : (i j : ℕ) (name : List ℕ) → HasName i name → HasName j name → i ≡ j
-same_row i j name a b = sym (row_of_name i a.0) ∙ ap row_of (a.1 ∙ sym b.1) ∙ row_of_name j b.0
-
 module _ (line name rest : List ℕ) (layout : Layout) (cuts : cut (32 ∷ []) line ≡ Some (name, rest)) (placed : Placed name layout) where
-  named_after_all : Unnamed line → ⊥
-  named_after_all u =
-      let same : ◌≡◌ {A = List ℕ × List ℕ} (u.name, u.rest) (name, rest) = cc u.cuts in
-      u.unknown placed.0 (subst (HasName placed.0) (ap (λ p. p.0) (sym same)) placed.1)
-
-  pub unread : read_prefix layout.width.bits rest ≡ None → Answers line (Err Unreadable)
-  unread none = (
-    named_after_all,
-    λ i P w s.
-        let same : ◌≡◌ {A = List ℕ × List ℕ} (s.name, s.rest) (name, rest) = cc s.cuts in
-        let row : i ≡ placed.0 = same_row i placed.0 name (subst (HasName i) (ap (λ p. p.0) same) s.list) placed.1 in
-        let bits : (get_or rows i v4).bits ≡ layout.width.bits = ap (λ n. (get_or rows n v4).bits) row ∙ sym placed.2.width in
-        let read : read_prefix (get_or rows i v4).bits s.rest ≡ None = ap₂ read_prefix bits (ap (λ p. p.1) same) ∙ none in
-        let clash : ◌≡◌ {A = ℕ} 0 1 = cc s.prefix in
-        absurd (omega arith),
-  )
-
   says : (P w : ℕ) → read_prefix layout.width.bits rest ≡ Some (P, w) → Says line placed.0 P w
   says P w reads = record {
     name = name;

@@ -1,11 +1,11 @@
 -- What a line of `explain` means. Assumes nothing.
-use Rattle.std.specs.Prelude.{◌≡◌, ℕ, ◌-◌, ◌%◌, ◌^◌, ◌<◌, ◌≤◌, List, [], ◌∷◌, Some, Ok, Err, Result, slice_index_or}
+use Rattle.std.specs.Prelude.{◌≡◌, ◌≢◌, ℕ, ◌-◌, ◌%◌, ◌^◌, ◌<◌, ◌≤◌, List, [], ◌∷◌, Some, Ok, Err, Result, slice_index_or}
 use Rattle.notation.specs.Cut.{cut}
 use Rattle.layout.specs.Named.{rows, v4, NoName, HasName, IsRow}
 use Rattle.layout.specs.declared.layout.Layout.{Layout}
 use Rattle.layout.specs.declared.prefix.PrefixFault.{PrefixFault}
 use Rattle.layout.specs.declared.prefix.PrefixFault.TheVariants.{AddressBeyondWidth, LengthBeyondWidth as PrefixTooLong, BitsAfterLength as PrefixUnclear}
-use Rattle.explanation.specs.Lines.{read_prefix}
+use Rattle.lines.specs.Prefixes.{read_prefix}
 use Rattle.explanation.specs.declared.query.Query.{Query}
 use Rattle.explanation.specs.declared.query.LineFault.{LineFault}
 use Rattle.explanation.specs.declared.query.LineFault.TheVariants.{Unreadable, UnknownList, LengthBeyondWidth, BitsAfterLength}
@@ -51,7 +51,7 @@ pub record Unclear (line : List ℕ) : Type 0 where
   pub length : ℕ
   pub says : Says line row address length
   pub within : length ≤ (slice_index_or rows row v4).bits
-  pub bits : address % 2 ^ ((slice_index_or rows row v4).bits - length) ≡ 0 → ⊥
+  pub bits : address % 2 ^ ((slice_index_or rows row v4).bits - length) ≢ 0
 
 -- what a faulty prefix makes of the line
 abbrev pub fault_of : PrefixFault → LineFault
@@ -61,7 +61,7 @@ fault_of PrefixUnclear = BitsAfterLength
 
 abbrev pub Answers : List ℕ → Result Query LineFault → Type 0
 Answers line (Ok q) = Means line q
-Answers line (Err Unreadable) = (Unnamed line → ⊥) × ((i P w : ℕ) → Says line i P w → ⊥)
+Answers line (Err Unreadable) = (¬ Unnamed line) × ((i P w : ℕ) → ¬ Says line i P w)
 Answers line (Err UnknownList) = Unnamed line
 Answers line (Err LengthBeyondWidth) = TooLong line
 Answers line (Err BitsAfterLength) = Unclear line
