@@ -1,1 +1,3 @@
+pub mod HexText
+pub mod PlaceRuns
 pub mod Reading

@@ -1,25 +1,27 @@
 -- What a line that is cut at its first space answers. Assumes nothing.
-use Rattle.std.proofs.Common.{◌≡◌, ℕ, zero, suc, ◌-◌, ◌%◌, ◌^◌, ◌<◌, ◌≤◌, cond, eqb, List, [], ◌∷◌, length, get_or, Some, None, Err, codes, IsUtf8, sym, refl, ap, ◌∙◌, subst, ap₂, arith}
+use Rattle.std.proofs.Common.{◌≡◌, ℕ, zero, suc, ◌-◌, ◌%◌, ◌^◌, ◌<◌, ◌≤◌, List, [], ◌∷◌, get_or, Some, None, Ok, Err, Option, Result, MatchResult, codes, IsUtf8, sym, ap, ◌∙◌, subst, arith}
 use Rattle.std.proofs.lemmas.Str.{IsUtf8-from_ascii}
 use Rattle.std.proofs.ByRecursion.{IsAscii-from_all}
+use Rattle.std.specs.Result.{result_ok}
 use Rattle.notation.specs.Cut.{cut}
-use Rattle.layout.specs.Named.{row_of, NoName, HasName}
-use Rattle.layout.specs.Layouts.{width_of}
-use Rattle.layout.specs.declared.named.ListName.{ListName}
-use Rattle.layout.specs.declared.named.ListName.TheVariants.{V4, V4Small, V6}
+use Rattle.layout.specs.Named.{rows, v4, NoName}
 use Rattle.layout.specs.Prefixes.{Made}
 use Rattle.layout.specs.declared.layout.Layout.{Layout}
 use Rattle.layout.specs.declared.prefix.PrefixFault.{PrefixFault}
 use Rattle.layout.specs.declared.prefix.PrefixFault.TheVariants.{AddressBeyondWidth, LengthBeyondWidth, BitsAfterLength}
-use Rattle.explanation.specs.Lines.{read_prefix}
-use Rattle.explanation.specs.Queries.{Placed, Says, Unnamed, Answers, fault_of}
-use Rattle.explanation.specs.declared.query.LineFault.TheVariants.{Unreadable}
+use Rattle.lines.specs.Prefixes.{read_prefix}
+use Rattle.explanation.specs.Queries.{Placed, Says, Answers, fault_of}
 
 -- the names are text
 named_utf8 : (list : ListName) → IsUtf8 (row_of list).name
 named_utf8 V4 = IsUtf8-from_ascii (codes "v4") (IsAscii-from_all (codes "v4") (omega arith))
 named_utf8 V4Small = IsUtf8-from_ascii (codes "v4-small") (IsAscii-from_all (codes "v4-small") (omega arith))
 named_utf8 V6 = IsUtf8-from_ascii (codes "v6") (IsAscii-from_all (codes "v6") (omega arith))
+
+-- what is said where a result that was asked for its value had none
+pub no_text : {T E : Type 0} (P : T → Type 0) (Q : Type 0) (R : E → Type 0) (r : Result T E) → ◌≡◌ {A = Option T} None (result_ok r) → MatchResult r P (λ e. Q × R e) → Q
+no_text P Q R (Ok x) none m = cc
+no_text P Q R (Err e) none m = m.0
 
 pub no_text_no_name : (name : List ℕ) → (IsUtf8 name → ⊥) → NoName name
 no_text_no_name name h list has = h (subst IsUtf8 has (named_utf8 list))
@@ -37,23 +39,6 @@ same_list : (one two : ListName) (name : List ℕ) → HasName one name → HasN
 same_list one two name a b = sym (list_of_name one) ∙ ap list_of (a ∙ sym b) ∙ list_of_name two
 
 module _ (line name rest : List ℕ) (layout : Layout) (cuts : cut (32 ∷ []) line ≡ Some (name, rest)) (placed : Placed name layout) where
-  named_after_all : Unnamed line → ⊥
-  named_after_all u =
-      let same : ◌≡◌ {A = List ℕ × List ℕ} (u.name, u.rest) (name, rest) = cc u.cuts in
-      u.unknown placed.0 (subst (HasName placed.0) (ap (λ p. p.0) (sym same)) placed.1)
-
-  pub unread : read_prefix (width_of layout).bits rest ≡ None → Answers line (Err Unreadable)
-  unread none = (
-    named_after_all,
-    λ list P w s.
-        let same : ◌≡◌ {A = List ℕ × List ℕ} (s.name, s.rest) (name, rest) = cc s.cuts in
-        let the_list : list ≡ placed.0 = same_list list placed.0 name (subst (HasName list) (ap (λ p. p.0) same) s.named) placed.1 in
-        let bits : (row_of list).bits ≡ (width_of layout).bits = ap (λ l. (row_of l).bits) the_list ∙ sym placed.2.width in
-        let read : read_prefix (row_of list).bits s.rest ≡ None = ap₂ read_prefix bits (ap (λ p. p.1) same) ∙ none in
-        let clash : ◌≡◌ {A = ℕ} 0 1 = cc s.prefix in
-        absurd (omega arith),
-  )
-
   says : (P w : ℕ) → read_prefix (width_of layout).bits rest ≡ Some (P, w) → Says line placed.0 P w
   says P w reads = record {
     name = name;

@@ -1,5 +1,3 @@
-pub mod Ends
-pub mod Lines
 pub mod Queries
 pub mod Places
 pub mod Texts

@@ -1,5 +1,5 @@
 -- What a line of `explain` means. Assumes nothing.
-use Rattle.std.specs.Prelude.{◌≡◌, ℕ, ◌-◌, ◌%◌, ◌^◌, ◌<◌, ◌≤◌, List, [], ◌∷◌, Some, Ok, Err, Result}
+use Rattle.std.specs.Prelude.{◌≡◌, ◌≢◌, ℕ, ◌-◌, ◌%◌, ◌^◌, ◌<◌, ◌≤◌, List, [], ◌∷◌, Some, Ok, Err, Result}
 use Rattle.notation.specs.Cut.{cut}
 use Rattle.layout.specs.Named.{row_of, NoName, HasName, IsRow}
 use Rattle.layout.specs.Layouts.{width_of}
@@ -7,7 +7,7 @@ use Rattle.layout.specs.declared.layout.Layout.{Layout}
 use Rattle.layout.specs.declared.named.ListName.{ListName}
 use Rattle.layout.specs.declared.prefix.PrefixFault.{PrefixFault}
 use Rattle.layout.specs.declared.prefix.PrefixFault.TheVariants.{AddressBeyondWidth, LengthBeyondWidth as PrefixTooLong, BitsAfterLength as PrefixUnclear}
-use Rattle.explanation.specs.Lines.{read_prefix}
+use Rattle.lines.specs.Prefixes.{read_prefix}
 use Rattle.explanation.specs.declared.query.Query.{Query}
 use Rattle.explanation.specs.declared.query.LineFault.{LineFault}
 use Rattle.explanation.specs.declared.query.LineFault.TheVariants.{Unreadable, UnknownList, LengthBeyondWidth, BitsAfterLength}
@@ -53,7 +53,7 @@ pub record Unclear (line : List ℕ) : Type 0 where
   pub length : ℕ
   pub says : Says line list address length
   pub within : length ≤ (row_of list).bits
-  pub bits : address % 2 ^ ((row_of list).bits - length) ≡ 0 → ⊥
+  pub bits : address % 2 ^ ((row_of list).bits - length) ≢ 0
 
 -- what a faulty prefix makes of the line
 abbrev pub fault_of : PrefixFault → LineFault
@@ -63,7 +63,7 @@ fault_of PrefixUnclear = BitsAfterLength
 
 abbrev pub Answers : List ℕ → Result Query LineFault → Type 0
 Answers line (Ok q) = Means line q
-Answers line (Err Unreadable) = (Unnamed line → ⊥) × ((list : ListName) (P w : ℕ) → Says line list P w → ⊥)
+Answers line (Err Unreadable) = (¬ Unnamed line) × ((i P w : ℕ) → ¬ Says line i P w)
 Answers line (Err UnknownList) = Unnamed line
 Answers line (Err LengthBeyondWidth) = TooLong line
 Answers line (Err BitsAfterLength) = Unclear line

@@ -1,10 +1,9 @@
 -- The whole reply to a line. Assumes nothing.
-use Rattle.std.specs.Prelude.{◌≡◌, ℕ, List, [], ◌∷◌, ◌++◌, Ok, Err, codes, Result}
+use Rattle.std.specs.Prelude.{◌≡◌, ℕ, List, [], ◌∷◌, ◌++◌, Ok, Err, Result}
 use Rattle.std.specs.List.{flat_map}
-use Rattle.notation.specs.Hexadecimal.{hex}
 use Rattle.explanation.specs.Queries.{Answers}
 use Rattle.explanation.specs.Places.{PlacesOf}
-use Rattle.explanation.specs.Texts.{prefix_text, place_text, fault_text}
+use Rattle.explanation.specs.Texts.{query_text, place_text, fault_text}
 use Rattle.explanation.specs.declared.query.Query.{Query}
 use Rattle.explanation.specs.declared.query.LineFault.{LineFault}
 use Rattle.explanation.specs.declared.place.Place.{Place}
@@ -15,7 +14,7 @@ place_line p = 32 ∷ 32 ∷ (place_text p ++ (10 ∷ []))
 
 -- the prefix and its list's generator on a line
 abbrev pub heading_of : Query → List ℕ
-heading_of q = prefix_text q.prefix ++ (codes ", generator 0x" ++ (hex q.layout.generator.poly ++ (10 ∷ [])))
+heading_of q = query_text q ++ (10 ∷ [])
 
 -- below the heading, the places that the query has
 pub record Explains (q : Query) (bytes : List ℕ) : Type 0 where

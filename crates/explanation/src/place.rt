@@ -1,5 +1,7 @@
 // Where the prefix of a query would stand: a place for each tread from its home tread down.
-ghost use Rattle.std.specs.Prelude.{◌+◌, IfOk};
+ghost use Rattle.std.specs.Prelude.{◌≡◌, ◌-◌, ◌<◌, IfOk, length, take, slice_index};
+ghost use Rattle.layout.specs.Layouts.{treads_of};
+ghost use Rattle.layout.specs.Treads.{home_tread};
 ghost use Rattle.explanation.specs.Places.{PlaceOf, PlacesOf};
 
 use crate::query::Query;
@@ -21,13 +23,22 @@ impl Query {
     pub fn places(&self, heap: Global) -> Result<Vec<Place>, AllocError>
         ensures { IfOk result (λ v. PlacesOf self.now v.items) }
     {
+        self.treads_to_home()
+            .iter()
+            .rev()
+            .map(|tread| self.place(*tread))
+            .collect(heap)
+    }
+
+    // The treads from the shortest to the home tread of the prefix's length.
+    fn treads_to_home(&self) -> &[u8]
+        ensures some { 0 < length result.now }
+        ensures front { result.now ≡ take (length result.now) (treads_of self.now.layout) }
+        ensures home { slice_index (treads_of self.now.layout) (length result.now - 1)
+            ≡ home_tread (treads_of self.now.layout) self.now.prefix.length }
+    {
         let home = self.layout.home(self.prefix.length());
-        let mut places = Vec::new(heap);
-        for number in (0..home + 1).rev() {
-            let tread = self.layout.treads()[number];
-            places.push(self.place(tread))?;
-        }
-        Ok(places)
+        &self.layout.treads()[..=home]
     }
 
     // The place under a tread.

@@ -1,5 +1,5 @@
 -- The end of a line. Assumes nothing.
-use Rattle.std.specs.Prelude.{ℕ, ◌-◌, Bool, cond, ◌&&◌, List, length, take, ◌==◌, nat_lt, slice_index}
+use Rattle.std.specs.Prelude.{ℕ, ◌-◌, Bool, if◌then◌else◌, ◌&&◌, List, length, take, ◌==◌, nat_lt, slice_index}
 
 -- the last byte is 10
 abbrev pub is_ended : List ℕ → Bool
@@ -7,4 +7,4 @@ is_ended line = nat_lt 0 (length line) && slice_index line (length line - 1) == 
 
 -- the line but for that byte
 abbrev pub without_end : List ℕ → List ℕ
-without_end line = cond (is_ended line) (take (length line - 1) line) line
+without_end line = if is_ended line then take (length line - 1) line else line

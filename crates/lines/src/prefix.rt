@@ -27,10 +27,7 @@ pub fn parse_address(bits: u8, text: &[u8]) -> Option<u128>
     ensures bound { IfSome result (λ a. a < 2 ^ bits) }
 {
     match bits {
-        32 => {
-            let address = parse_ipv4(text)?;
-            Some(u128::from(address))
-        }
+        32 => parse_ipv4(text).map(u128::from),
         128 => parse_ipv6(text),
         _ => None,
     }

@@ -1,5 +1,5 @@
 -- Places kept in records. Assumes nothing.
-use Rattle.std.specs.Prelude.{cond, Some, None, Option, ◌==◌}
+use Rattle.std.specs.Prelude.{if◌then◌else◌, Some, None, Option, ◌==◌}
 use Rattle.store.specs.declared.place.Entry.{Entry}
 use Rattle.memory.specs.declared.record.Record.{Record}
 use Rattle.memory.specs.Encodings.{Encoding}
@@ -14,7 +14,7 @@ record_of (Some e) = record { digest = e.digest; hop = e.hop; length = e.length;
 
 -- what a record is read as
 abbrev pub record_content : Record → Option Entry
-record_content r = cond (r.occupied == 1) (Some (record { digest = r.digest; hop = r.hop; length = r.length; tread = r.tread })) None
+record_content r = if r.occupied == 1 then Some (record { digest = r.digest; hop = r.hop; length = r.length; tread = r.tread }) else None
 
 abbrev pub record_encoding : Encoding Record
 record_encoding = record { bits = 124; blank = blank_record; decoded = record_content; encoded = record_of }

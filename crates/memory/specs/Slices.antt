@@ -1,5 +1,5 @@
 -- Stores over memory with one element at each place. Assumes nothing.
-use Rattle.std.specs.Prelude.{◌≡◌, ℕ, ◌+◌, ◌*◌, ◌/◌, ◌%◌, Bool, cond, ◌&&◌, List, length, Some, None, Ok, Err, Option, Result, ◌==◌, nat_le, slice_index_or, slice_set}
+use Rattle.std.specs.Prelude.{◌≡◌, ℕ, ◌+◌, ◌*◌, ◌/◌, ◌%◌, Bool, if◌then◌else◌, ◌&&◌, List, length, Some, None, Ok, Err, Option, Result, ◌==◌, nat_le, slice_index_or, slice_set}
 use Rattle.store.specs.declared.shape.Shape.{Shape}
 use Rattle.store.specs.declared.shape.WriteRefusal.{WriteRefusal}
 use Rattle.memory.specs.Encodings.{Encoding}
@@ -15,7 +15,7 @@ abbrev pub fills : ℕ → ℕ → Bool
 fills n S = (nat_le 1 S && nat_le S 8) && (n % S == 0 && nat_le (n / S) 65536)
 
 abbrev pub slice_shape : ℕ → ℕ → ℕ → ℕ → Shape
-slice_shape Z n B S = record { buckets = cond (filled n B S) B 0; slots = cond (filled n B S) S 0; digest_bits = Z }
+slice_shape Z n B S = record { buckets = if filled n B S then B else 0; slots = if filled n B S then S else 0; digest_bits = Z }
 
 -- slot s of bucket b is element b × S + s
 abbrev pub slice_grid : {T : Type 0} → Encoding T → List T → ℕ → ℕ → Grid
@@ -23,7 +23,7 @@ slice_grid e xs B S = record { shape = slice_shape e.bits (length xs) B S; at = 
 
 -- a store made over memory of n elements
 abbrev pub shape_over : ℕ → ℕ → ℕ → Shape
-shape_over Z n S = record { buckets = cond (fills n S) (n / S) 0; slots = cond (fills n S) S 0; digest_bits = Z }
+shape_over Z n S = record { buckets = if fills n S then n / S else 0; slots = if fills n S then S else 0; digest_bits = Z }
 
 -- the grid is that of a store made over the memory
 pub record Over {T : Type 0} (e : Encoding T) (memory : List T) (S : ℕ) (grid : Grid) : Type 0 where

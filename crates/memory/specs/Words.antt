@@ -1,5 +1,5 @@
 -- Places kept in 64-bit words. Assumes nothing.
-use Rattle.std.specs.Prelude.{ℕ, ◌+◌, ◌*◌, ◌/◌, ◌%◌, ◌^◌, cond, Some, None, Option, ◌==◌}
+use Rattle.std.specs.Prelude.{ℕ, ◌+◌, ◌*◌, ◌/◌, ◌%◌, ◌^◌, if◌then◌else◌, Some, None, Option, ◌==◌}
 use Rattle.store.specs.declared.place.Entry.{Entry}
 use Rattle.memory.specs.Encodings.{Encoding}
 
@@ -15,8 +15,8 @@ word_of (Some e) = word_of_entry e
 -- what a word is read as: an entry where bit 54 is set
 abbrev pub word_content : ℕ → Option Entry
 word_content n =
-    cond (n / 2 ^ 54 % 2 == 0) None
-    (Some (record { digest = n % 2 ^ 28; hop = n / 2 ^ 28 % 2 ^ 12; length = n / 2 ^ 46 % 2 ^ 8; tread = n / 2 ^ 40 % 2 ^ 6 }))
+    if n / 2 ^ 54 % 2 == 0 then None
+    else Some (record { digest = n % 2 ^ 28; hop = n / 2 ^ 28 % 2 ^ 12; length = n / 2 ^ 46 % 2 ^ 8; tread = n / 2 ^ 40 % 2 ^ 6 })
 
 abbrev pub word_encoding : Encoding ℕ
 word_encoding = record { bits = 28; blank = 0; decoded = word_content; encoded = word_of }

@@ -1,6 +1,6 @@
 // Places kept in records.
-ghost use Rattle.std.specs.Prelude.{◌≡◌};
-ghost use Rattle.memory.specs.Records.{record_encoding};
+ghost use Rattle.std.specs.Prelude.{◌≡◌, Some};
+ghost use Rattle.memory.specs.Records.{record_encoding, record_of};
 ghost use Rattle.std.proofs.Common.{rules};
 
 use crate::encoded::Encoded;
@@ -8,14 +8,14 @@ use crate::slice_store::SliceStore;
 use store::place::Entry;
 
 // The fields of an entry, and whether there is one.
-#[derive(Clone, Copy, PartialEq, Eq, Debug)]
+#[derive(Clone, Copy, PartialEq, Eq, Debug, Default)]
 pub struct Record {
     pub digest: u128,
     pub hop: u16,
     pub length: u8,
     pub tread: u8,
-    // 1 where an entry stands here, and any other number where there is nothing; no `bool`, since memory that comes
-    // from outside may hold anything
+    // 1 where an entry stands here, and any other number where there is nothing; no `bool` and no `Option`, since memory
+    // that comes from outside may hold any byte, and each has to mean something
     pub occupied: u8,
 }
 
@@ -44,21 +44,21 @@ impl Encoded for Record {
     }
 
     fn encode(content: Option<Entry>) -> Record {
-        match content {
-            Some(entry) => Record {
-                digest: entry.digest,
-                hop: entry.hop,
-                length: entry.length,
-                tread: entry.tread,
-                occupied: 1,
-            },
-            None => Record {
-                digest: 0,
-                hop: 0,
-                length: 0,
-                tread: 0,
-                occupied: 0,
-            },
+        content.map(Record::from).unwrap_or_default()
+    }
+}
+
+// The record of an entry.
+impl From<Entry> for Record {
+    ghost from_gives = { λ entry made. made ≡ record_of (Some entry) };
+
+    fn from(entry: Entry) -> Record {
+        Record {
+            digest: entry.digest,
+            hop: entry.hop,
+            length: entry.length,
+            tread: entry.tread,
+            occupied: 1,
         }
     }
 }

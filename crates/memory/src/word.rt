@@ -1,5 +1,5 @@
 // Places kept in 64-bit words.
-ghost use Rattle.std.specs.Prelude.{◌≡◌};
+ghost use Rattle.std.specs.Prelude.{◌≡◌, ◌+◌, ◌*◌, ◌/◌, ◌%◌, ◌^◌, ◌<◌, ◌≤◌};
 ghost use Rattle.memory.specs.Words.{word_of_entry, word_encoding};
 ghost use Rattle.std.proofs.Common.{rules};
 
@@ -10,28 +10,48 @@ use store::place::Entry;
 // A store over the caller's words.
 pub type WordStore<'a> = SliceStore<'a, u64>;
 
-// How many bits each field has, and at which bit it begins:
+// At which bit each field begins, and how many it has:
 //
 //  63       55 54 53      46 45     40 39       28 27             0
 // +-----------+--+----------+---------+-----------+----------------+
 // | written 0 | 1|  length  |  tread  |    hop    |     digest     |
 // +-----------+--+----------+---------+-----------+----------------+
-const DIGEST_BITS: u32 = 28;
+const DIGEST: Field = Field { at: 0, bits: 28 };
 
-const HOP_BITS: u32 = 12;
+const HOP: Field = Field { at: 28, bits: 12 };
 
-const HOP_AT: u32 = 28;
+const TREAD: Field = Field { at: 40, bits: 6 };
 
-const TREAD_BITS: u32 = 6;
-
-const TREAD_AT: u32 = 40;
-
-const LENGTH_BITS: u32 = 8;
-
-const LENGTH_AT: u32 = 46;
+const LENGTH: Field = Field { at: 46, bits: 8 };
 
 // set in every word that is an entry
-const OCCUPIED_AT: u32 = 54;
+const OCCUPIED: Field = Field { at: 54, bits: 1 };
+
+// Bits of a word, one after the other from bit `at` on.
+#[derive(Clone, Copy)]
+struct Field {
+    at: u32,
+    bits: u32,
+    ghost not_empty: { 0 < bits },
+    ghost not_all: { bits < 64 },
+    ghost inside: { at + bits ≤ 64 },
+}
+
+impl Field {
+    // What stands in the field.
+    fn read(self, word: u64) -> u64
+        ensures { result ≡ word / 2 ^ self.at % 2 ^ self.bits }
+    {
+        (word >> self.at) % (1 << self.bits)
+    }
+
+    // A word of which the field holds the value, cut to its bits, and the other bits are 0.
+    fn word(self, value: u64) -> u64
+        ensures { result ≡ value % 2 ^ self.bits * 2 ^ self.at }
+    {
+        (value % (1 << self.bits)) << self.at
+    }
+}
 
 impl Encoded for u64 {
     ghost encoding = { word_encoding };
@@ -39,35 +59,32 @@ impl Encoded for u64 {
     ghost restores = { Prim.search rules };
 
     fn digest_bits() -> u32 {
-        DIGEST_BITS
+        DIGEST.bits
     }
 
     fn decode(self) -> Option<Entry> {
-        if (self >> OCCUPIED_AT) % 2 == 0 {
+        if OCCUPIED.read(self) == 0 {
             return None;
         }
         Some(Entry {
-            digest: u128::from(self % (1 << DIGEST_BITS)),
-            hop: ((self >> HOP_AT) % (1 << HOP_BITS)) as u16,
-            length: ((self >> LENGTH_AT) % (1 << LENGTH_BITS)) as u8,
-            tread: ((self >> TREAD_AT) % (1 << TREAD_BITS)) as u8,
+            digest: u128::from(DIGEST.read(self)),
+            hop: HOP.read(self) as u16,
+            length: LENGTH.read(self) as u8,
+            tread: TREAD.read(self) as u8,
         })
     }
 
     fn encode(content: Option<Entry>) -> u64 {
-        match content {
-            Some(entry) => word_of(entry),
-            None => 0,
-        }
+        content.map_or(0, word_of)
     }
 }
 
 fn word_of(entry: Entry) -> u64
     ensures { result ≡ word_of_entry entry }
 {
-    let digest = (entry.digest % (1 << DIGEST_BITS)) as u64;
-    let hop = u64::from(entry.hop % (1 << HOP_BITS));
-    let tread = u64::from(entry.tread % (1 << TREAD_BITS));
-    let length = u64::from(entry.length);
-    digest + (hop << HOP_AT) + (tread << TREAD_AT) + (length << LENGTH_AT) + (1 << OCCUPIED_AT)
+    DIGEST.word((entry.digest % (1 << DIGEST.bits)) as u64)
+        + HOP.word(u64::from(entry.hop))
+        + TREAD.word(u64::from(entry.tread))
+        + LENGTH.word(u64::from(entry.length))
+        + OCCUPIED.word(1)
 }

@@ -1,11 +1,13 @@
 -- Where `cut` cuts.
-use Rattle.std.proofs.Common.{◌≡◌, ℕ, zero, suc, ◌<◌, ◌≤◌, Bool, true, false, cond, eqb, List, [], ◌∷◌, ◌++◌, length, take, drop, Some, None, Option, sym, refl, ap, ◌∙◌, subst, arith}
+use Rattle.std.proofs.Common.{◌≡◌, ℕ, zero, suc, ◌<◌, ◌≤◌, Bool, true, false, cond, eqb, List, [], ◌∷◌, ◌++◌, length, take, drop, Some, None, Option, sym, refl, ap, ◌∙◌, subst, arith, length-append, ◌+◌, MatchOption}
 use Rattle.std.proofs.lemmas.Bool.{and_parts, and_from, and_left, eq-eqb, ne_eqb, eqb-true, cond-true, cond-false, false≢true}
+use Rattle.std.proofs.lemmas.List.{drop-drop, length-drop}
+use Rattle.std.proofs.lemmas.Option.{none-some}
 use Rattle.std.specs.Option.{option_map}
 use Rattle.std.specs.Str.Parse.{AllDigits}
 use Rattle.std.specs.Char.{digit_value}
 use Rattle.notation.specs.Cut.{begins, cut}
-use Rattle.notation.proofs.Options.{none≢some, some_inj}
+use Rattle.notation.proofs.Options.{some_inj}
 
 begins_true : (mark text : List ℕ) → begins mark text ≡ true → text ≡ mark ++ drop (length mark) text
 begins_true [] text h = refl
@@ -41,14 +43,25 @@ cut_none mark (c ∷ cs) before =
     cond-false _ (Some ([], drop (length mark) (c ∷ cs))) _ (before 0 (omega arith))
     ∙ ap (option_map (λ (p : List ℕ × List ℕ). (c ∷ p.0, p.1))) (cut_none mark cs (λ k l. before (suc k) (omega arith)))
 
+-- the first place of the mark, or none, tells how `cut` cuts, if every place from the beginning was tried
+pub cut_from_place : (mark text : List ℕ) (from : ℕ) (r : Option ℕ)
+    → MatchOption r ((k : ℕ) → from ≤ k → k < length text → begins mark (drop k text) ≡ false) (λ i. (from ≤ i) × (i < length text) × (begins mark (drop i text) ≡ true) × ((k : ℕ) → from ≤ k → k < i → begins mark (drop k text) ≡ false))
+    → from ≡ 0 → MatchOption r (cut mark text ≡ None) (λ i. (i + length mark ≤ length text) × (cut mark text ≡ Some (take i text, drop (i + length mark) text)))
+cut_from_place mark text from None none z = cut_none mark text (λ k h. none k (omega arith) h)
+cut_from_place mark text from (Some i) found z =
+    let joins = begins_true mark (drop i text) found.2 in (
+      omega (arith, found.1, ap length joins, length-append mark (drop (length mark) (drop i text)), length-drop i text),
+      cut_at mark text i found.1 (λ k h. found.3 k (omega arith) h) found.2 ∙ ap (λ l. Some (take i text, l)) (drop-drop (length mark) i text),
+    )
+
 -- the text is what stands before the mark, the mark, and what stands after it
 pub cut_joins : (mark text l r : List ℕ) → cut mark text ≡ Some (l, r) → text ≡ l ++ (mark ++ r)
-cut_joins mark [] l r h = absurd (none≢some _ h)
+cut_joins mark [] l r h = absurd (none-some _ h)
 cut_joins mark (c ∷ cs) l r h = by (begins mark (c ∷ cs)) (cut mark cs) refl (λ q e. cut_joins mark cs q.0 q.1 e) h
   where
     by : (b : Bool) (o : Option (List ℕ × List ℕ)) → begins mark (c ∷ cs) ≡ b → ((q : List ℕ × List ℕ) → o ≡ Some q → cs ≡ q.0 ++ (mark ++ q.1)) → cond {A = Option (List ℕ × List ℕ)} b (Some ([], drop (length mark) (c ∷ cs))) (option_map (λ (p : List ℕ × List ℕ). (c ∷ p.0, p.1)) o) ≡ Some (l, r) → c ∷ cs ≡ l ++ (mark ++ r)
     by true o here rec k = let p = some_inj k in begins_true mark (c ∷ cs) here ∙ (λ i. (p i).0 ++ (mark ++ (p i).1))
-    by false None here rec k = absurd (none≢some _ k)
+    by false None here rec k = absurd (none-some _ k)
     by false (Some q) here rec k = let p = some_inj k in ap (λ t. c ∷ t) (rec q refl) ∙ (λ i. (p i).0 ++ (mark ++ (p i).1))
 
 -- the byte m does not stand in the text

@@ -43,6 +43,3 @@ around_lt cl cr vl vr h k l =
 
 pub power_lt : (n : ℕ) → n ≤ 7 → 65536 ^ n < 2 ^ 128
 power_lt n h = let p : 65536 ^ n ≤ 65536 ^ 7 = pow-le-pow_right (omega arith) {i = n} {j = 7} h in omega arith
-
-pub power_positive : (n : ℕ) → 0 < 65536 ^ n
-power_positive n = let p : 65536 ^ 0 ≤ 65536 ^ n = pow-le-pow_right (omega arith) {i = 0} {j = n} (omega arith) in omega arith

@@ -1,5 +1,5 @@
 -- What the pieces of a written address are.
-use Rattle.std.proofs.Common.{◌≡◌, ℕ, zero, suc, ◌-◌, ◌/◌, ◌%◌, ◌<◌, ◌≤◌, true, false, eqb, List, [], ◌∷◌, ◌++◌, map, length, get_or, take, drop, sym, refl, ap, ◌∙◌, mod-eq_of_lt, arith}
+use Rattle.std.proofs.Common.{◌≡◌, ℕ, zero, suc, ◌-◌, ◌/◌, ◌%◌, ◌^◌, ◌<◌, ◌≤◌, Bool, true, false, cond, eqb, List, [], ◌∷◌, ◌++◌, map, length, get_or, take, drop, sym, refl, ap, ◌∙◌, append_assoc, append-nil, pow-suc, mod-eq_of_lt, arith}
 use native.Mathlib.Nat.{div-eq_of_lt}
 use lib.Utf8.{encode}
 use Rattle.std.proofs.lemmas.Int.Digits.{digits_of_step}
@@ -7,6 +7,7 @@ use Rattle.std.proofs.lemmas.List.{map_push, take_rest}
 use Rattle.std.proofs.lemmas.Bool.{cond-false, ne_eqb, eqb-true, eqb-false}
 use Rattle.std.proofs.lemmas.Str.{encode_ascii}
 use Rattle.std.proofs.lemmas.Bool.Decides.{nat_tests}
+use Rattle.std.specs.Fmt.{digits_onto, digits}
 use Rattle.std.specs.Int.Digits.{digits_of}
 use Rattle.std.specs.Char.{digit_char}
 use Rattle.notation.specs.Groups.{colon}
@@ -40,17 +41,35 @@ hex_short c n h e = encode_digit c n h e ∙ hex_one n h
 pub hex_long : (c n : ℕ) → 16 ≤ n → c ≡ digit_char (n % 16) → hex (n / 16) ++ encode c ≡ hex n
 hex_long c n h e = ap (λ l. hex (n / 16) ++ l) (encode_digit c (n % 16) (omega arith) e) ∙ hex_more n h
 
+-- `{:x}` writes the same of a number that it says something of
+digits_onto_hex : (k n : ℕ) (acc : List ℕ) → n < 16 ^ k → 0 < k → digits_onto k 16 false n acc ≡ hex n ++ acc
+digits_onto_hex zero n acc h l = absurd (omega arith)
+digits_onto_hex (suc k) n acc h l =
+    by (eqb (n / 16) 0) refl (λ s l. digits_onto_hex k (n / 16) (digit_char (n % 16) ∷ acc) s l)
+  where
+    by : (b : Bool) → eqb (n / 16) 0 ≡ b → (n / 16 < 16 ^ k → 0 < k → digits_onto k 16 false (n / 16) (digit_char (n % 16) ∷ acc) ≡ hex (n / 16) ++ (digit_char (n % 16) ∷ acc)) → cond b (digit_char (n % 16) ∷ acc) (digits_onto k 16 false (n / 16) (digit_char (n % 16) ∷ acc)) ≡ hex n ++ acc
+    by true e rest =
+        let z = eqb-true (n / 16) 0 e in let m : n % 16 ≡ n = omega arith in
+        ap (λ d. digit_char d ∷ acc) m ∙ ap (λ l. l ++ acc) (hex_one n (omega arith))
+    by false e rest =
+        let z = eqb-false (n / 16) 0 e in let p = pow-suc 16 k in
+        rest (omega arith) (some k h z) ∙ sym (append_assoc (hex (n / 16)) (digit_char (n % 16) ∷ []) acc) ∙ ap (λ l. l ++ acc) (hex_more n (omega arith))
+      where
+        some : (k : ℕ) → n < 16 ^ suc k → (n / 16 ≡ 0 → ⊥) → 0 < k
+        some zero s z = absurd (z (omega arith))
+        some (suc k) s z = omega arith
+
+pub digits_hex : (n : ℕ) → n < 2 ^ 64 → digits 16 false n ≡ hex n
+unfolding digits
+digits_hex n h = digits_onto_hex 64 n [] (omega arith) (omega arith) ∙ append-nil (hex n)
+
 -- and group by group
-pub colons_none : (gs : List ℕ) → eqb (length gs) 0 ≡ true → [] ≡ colons gs
-colons_none [] h = refl
-colons_none (g ∷ gs) h = absurd (omega (arith, eqb-true (suc (length gs)) 0 h))
+pub colons_last : (gs : List ℕ) → length gs ≡ 1 → get_or gs 0 0 < 2 ^ 64 → digits 16 false (get_or gs 0 0) ≡ colons gs
+colons_last [] e h = absurd (omega arith)
+colons_last (g ∷ []) e h = digits_hex g h
+colons_last (g ∷ x ∷ gs) e h = absurd (omega arith)
 
-pub colons_one : (gs : List ℕ) → length gs ≡ 1 → hex (get_or gs 0 0) ≡ colons gs
-colons_one [] h = absurd (omega arith)
-colons_one (g ∷ []) h = refl
-colons_one (g ∷ x ∷ gs) h = absurd (omega arith)
-
-pub colons_more : (gs : List ℕ) → eqb (length gs) 0 ≡ false → (length gs ≡ 1 → ⊥) → hex (get_or gs 0 0) ++ (colon ∷ colons (take (length gs - 1) (drop 1 gs))) ≡ colons gs
-colons_more [] h k = absurd (eqb-false 0 0 h refl)
-colons_more (g ∷ []) h k = absurd (k refl)
-colons_more (g ∷ x ∷ gs) h k = ap (λ l. hex g ++ (colon ∷ colons l)) (take_rest (g ∷ x ∷ gs) 1)
+pub colons_first : (gs : List ℕ) → 2 ≤ length gs → get_or gs 0 0 < 2 ^ 64 → (digits 16 false (get_or gs 0 0) ++ (colon ∷ [])) ++ colons (take (length gs - 1) (drop 1 gs)) ≡ colons gs
+colons_first [] k h = absurd (omega arith)
+colons_first (g ∷ []) k h = absurd (omega arith)
+colons_first (g ∷ x ∷ gs) k h = (λ i. (digits_hex g h i ++ (colon ∷ [])) ++ colons (take_rest (g ∷ x ∷ gs) 1 i)) ∙ append_assoc (hex g) (colon ∷ []) (colons (x ∷ gs))

@@ -1,13 +1,14 @@
 -- What the reader joins around `::` is what `around` says.
 use Rattle.std.proofs.Common.{◌≡◌, ℕ, ◌+◌, ◌-◌, ◌*◌, ◌^◌, ◌<◌, ◌≤◌, leb, ◌⊎◌, List, ◌++◌, length, replicate, Some, None, Option, sym, ap, ◌∙◌, inl, inr, arith}
 use Rattle.std.proofs.lemmas.Bool.{cases_lt, lt-leb}
+use Rattle.std.proofs.lemmas.Option.{none-some}
 use Rattle.std.specs.Bool.{then_some}
 use Rattle.std.specs.Int.Digits.{number_from_digits}
 use Rattle.notation.specs.Chain.{and_then}
 use Rattle.notation.specs.Groups.{total}
 use Rattle.notation.specs.Ipv6.{around}
 use Rattle.notation.proofs.GroupSums.{number_around}
-use Rattle.notation.proofs.Options.{none≢some, when_true_some}
+use Rattle.notation.proofs.Options.{when_true_some}
 
 -- the address of two totals
 abbrev pub joined : ℕ × ℕ → ℕ × ℕ → Option ℕ
@@ -24,7 +25,7 @@ joined_around ls rs = ap (λ n. then_some (leb n 7) (number_from_digits (2 ^ 16)
         ap (λ b. then_some b (number_from_digits (2 ^ 16) ls * 65536 ^ (8 - (0 + length ls)) + number_from_digits (2 ^ 16) rs)) f
         ∙ sym (ap (λ b. then_some b (number_from_digits (2 ^ 16) (ls ++ (replicate (8 - (length ls + length rs)) 0 ++ rs)))) f)
 
-pub joined_is : (left right : Option (List ℕ)) (l r : ℕ × ℕ) → Some l ≡ and_then left (total 0 0) → Some r ≡ and_then right (total 0 0) → joined l r ≡ and_then left (λ ls. and_then right (λ rs. around ls rs))
-joined_is None right l r e f = absurd (none≢some _ (sym e))
-joined_is (Some ls) None l r e f = absurd (none≢some _ (sym f))
+pub joined_is : (left right : Option (List ℕ)) (l r : ℕ × ℕ) → Some l ≡ and_then left (total (0, 0)) → Some r ≡ and_then right (total (0, 0)) → joined l r ≡ and_then left (λ ls. and_then right (λ rs. around ls rs))
+joined_is None right l r e f = absurd (none-some _ (sym e))
+joined_is (Some ls) None l r e f = absurd (none-some _ (sym f))
 joined_is (Some ls) (Some rs) l r e f = (λ i. joined (sym (when_true_some _ (sym e)).1 i) (sym (when_true_some _ (sym f)).1 i)) ∙ joined_around ls rs

@@ -7,9 +7,9 @@ pub mod Dotted
 mod GroupSums
 mod ReadGroups
 mod Joining
-mod HexText
+pub mod HexText
 mod ZeroRuns
-mod AddressText
+mod Segments
 pub mod RoundTrip
 pub mod Reading
 pub mod Accepted

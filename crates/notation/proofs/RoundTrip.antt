@@ -1,15 +1,15 @@
 -- What is written of an address is one of its writings, so it reads back.
-use Rattle.std.proofs.Common.{◌≡◌, ℕ, zero, suc, ◌+◌, ◌-◌, ◌*◌, ◌/◌, ◌%◌, ◌^◌, ◌<◌, ◌≤◌, Bool, true, false, cond, ltb, List, [], ◌∷◌, ◌++◌, map, length, replicate, Some, None, codes, Option, sym, refl, ap, ◌∙◌, subst, inl, inr, pow-suc, arith}
+use Rattle.std.proofs.Common.{◌≡◌, ℕ, zero, suc, ◌+◌, ◌-◌, ◌*◌, ◌/◌, ◌%◌, ◌^◌, ◌<◌, ◌≤◌, Bool, true, false, cond, ltb, List, [], ◌∷◌, ◌++◌, length, replicate, Some, None, codes, Option, sym, refl, ap, ◌∙◌, subst, inl, inr, pow-suc, arith}
 use native.Mathlib.Nat.{pow-zero}
-use Rattle.std.proofs.lemmas.Int.Digits.{digits_of_step, length-digits_of-le, all_below_base_digits_of, number_digits_of, number_push, digits_value_is}
+use Rattle.std.proofs.lemmas.Int.Digits.{length-digits_of-le, number_push}
 use Rattle.std.proofs.ByRecursion.{All-push}
-use Rattle.std.proofs.lemmas.List.{length-append, length-map, length_push, length-replicate}
+use Rattle.std.proofs.lemmas.List.{length-append, length-map, length-replicate}
 use Rattle.std.proofs.lemmas.Bool.{eqb-true, ltb-false}
-use Rattle.std.proofs.lemmas.Bool.Decides.{nat_tests}
-use Rattle.std.specs.Str.Parse.{AllDigits, digits_value}
-use Rattle.std.specs.Int.Digits.{digits_of, number_from_digits, AllBelowBase}
+use Rattle.std.proofs.lemmas.Fmt.{digits_is_IsNumeral}
+use Rattle.std.specs.Str.Parse.{IsNumeral, digits_value}
+use Rattle.std.specs.Int.Digits.{digits_of, number_from_digits}
 use Rattle.std.specs.List.{AllByRecursion as All}
-use Rattle.std.specs.Char.{digit_char, digit_value}
+use Rattle.std.specs.Char.{digit_char}
 use Rattle.notation.specs.Cut.{cut}
 use Rattle.notation.specs.Ipv4.{dotted}
 use Rattle.notation.specs.Ipv6.{read6}
@@ -17,29 +17,21 @@ use Rattle.notation.specs.Hexadecimal.{hex}
 use Rattle.notation.specs.Ipv6Text.{groups_of, colons, longest_run, sides_text, groups_text, is_mapped, text6}
 use Rattle.notation.specs.Writings.{WritesGroup, WritesGroups, WritesSide, Whole, Shortened, Writes}
 use Rattle.notation.proofs.Cuts.{cut_joins}
-use Rattle.notation.proofs.HexText.{hex_positive}
+use Rattle.notation.proofs.HexText.{hex_positive, digits_hex}
 use Rattle.notation.proofs.Options.{cond_some}
 use Rattle.notation.proofs.Reading.{writing_read}
 
 -- a group's digits
 
-digit_back : (d : ℕ) → d < 16 → digit_value (digit_char d) ≡ d
-digit_back d h = grind (arith, nat_tests)
-
-digits_back : (ds : List ℕ) → AllBelowBase 16 ds → AllDigits 16 (map digit_char ds) × (map digit_value (map digit_char ds) ≡ ds)
-digits_back [] h = (tt, refl)
-digits_back (d ∷ ds) h = let e = digit_back d h.0 in let r = digits_back ds h.1 in
-    ((omega (arith, e, h.0), r.0), λ i. e i ∷ r.1 i)
+hex_length : (g : ℕ) → g < 2 ^ 16 → length (hex g) ≤ 4
+hex_length zero h = omega arith
+hex_length (suc n) h =
+    omega (arith, ap length (hex_positive (suc n) (omega arith)), length-map (digits_of 16 (suc n)) digit_char, length-digits_of-le 16 4 (suc n) (omega arith) (omega arith))
 
 hex_written : (g : ℕ) → g < 2 ^ 16 → WritesGroup g (hex g)
-hex_written zero h = ((omega arith, (omega arith, tt)), omega arith, refl)
-hex_written (suc n) h =
-    let g = suc n in let ds = digits_of 16 g in let e = hex_positive g (omega arith) in let r = digits_back ds (all_below_base_digits_of 16 g (omega arith)) in
-    let long : length (hex g) ≡ length ds = ap length e ∙ length-map ds digit_char in (
-      (omega (arith, long, ap length (digits_of_step 16 g (omega arith) (omega arith)) ∙ length_push (digits_of 16 (g / 16)) (g % 16)), subst (AllDigits 16) (sym e) r.0),
-      omega (arith, long, length-digits_of-le 16 4 g (omega arith) (omega arith)),
-      ap (digits_value 16) e ∙ digits_value_is 16 (map digit_char ds) ∙ ap (number_from_digits 16) r.1 ∙ number_digits_of 16 g (omega arith),
-    )
+hex_written g h =
+    let w = subst (λ t. IsNumeral 16 t × (digits_value 16 t ≡ g)) (digits_hex g (omega arith)) (digits_is_IsNumeral 16 false (omega arith) (omega arith) g (omega arith)) in
+    (w.0, hex_length g h, w.1)
 
 -- groups with colons between
 

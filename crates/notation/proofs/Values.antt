@@ -1,27 +1,11 @@
 -- What digits write, part by part, and when `read_digits` refuses.
-use Rattle.std.proofs.Common.{◌≡◌, ℕ, zero, suc, ◌+◌, ◌*◌, ◌<◌, ◌≤◌, Bool, true, false, ◌&&◌, ltb, leb, List, [], ◌∷◌, ◌++◌, length, get_or, take, drop, Some, None, sym, refl, ap, ◌∙◌, mul-le-mul_left, arith}
+use Rattle.std.proofs.Common.{◌≡◌, ℕ, zero, suc, ◌+◌, ◌*◌, ◌<◌, ◌≤◌, Bool, true, false, ◌&&◌, ltb, leb, List, [], ◌∷◌, length, get_or, take, Some, None, sym, refl, ap, ◌∙◌, arith}
 use Rattle.std.proofs.lemmas.Int.Digits.{digits_value_more}
-use Rattle.std.proofs.lemmas.List.{take-append-drop}
 use Rattle.std.proofs.lemmas.Bool.{le-ltb, lt-ltb, lt-leb, le-leb, and_left, and_right, and_from, ltb-true, and_parts}
 use Rattle.std.specs.Bool.{then_some}
-use Rattle.std.specs.Str.Parse.{AllDigits, digits_value, digits_value_after}
+use Rattle.std.specs.Str.Parse.{AllDigits, digits_value}
 use Rattle.std.specs.Char.{digit_value}
 use Rattle.notation.specs.Digits.{are_digits, read_digits}
-
-value_after_append : (radix n : ℕ) (xs ys : List ℕ) → digits_value_after radix n (xs ++ ys) ≡ digits_value_after radix (digits_value_after radix n xs) ys
-value_after_append radix n [] ys = refl
-value_after_append radix n (x ∷ xs) ys = value_after_append radix (n * radix + digit_value x) xs ys
-
-value_after_ge : (radix n : ℕ) (ys : List ℕ) → 1 ≤ radix → n ≤ digits_value_after radix n ys
-value_after_ge radix n [] h = omega arith
-value_after_ge radix n (y ∷ ys) h = omega (arith, mul-le-mul_left n h, value_after_ge radix (n * radix + digit_value y) ys h)
-
--- a part from the start writes no more than the whole
-pub value_take_le : (radix : ℕ) (text : List ℕ) (i : ℕ) → 1 ≤ radix → digits_value radix (take i text) ≤ digits_value radix text
-value_take_le radix text i h =
-    let e : digits_value radix text ≡ digits_value_after radix (digits_value radix (take i text)) (drop i text) =
-    ap (digits_value radix) (sym (take-append-drop i text)) ∙ value_after_append radix 0 (take i text) (drop i text)
-    in omega (arith, e, value_after_ge radix (digits_value radix (take i text)) (drop i text) h)
 
 pub are_digits_true : (radix : ℕ) (text : List ℕ) → AllDigits radix text → are_digits radix text ≡ true
 are_digits_true radix [] h = refl

@@ -8,7 +8,7 @@ ghost use Rattle.notation.specs.Ipv6Text.{colons};
 use std::fmt;
 
 // A number that is written in lower case without leading zeros.
-#[derive(Clone, Copy)]
+#[derive(Clone, Copy, PartialEq, Eq, Debug)]
 pub struct HexText(pub u128);
 
 impl fmt::Display for HexText {
@@ -20,17 +20,17 @@ impl fmt::Display for HexText {
 }
 
 // Writes groups with colons between.
+#[tactic(auto, using(crate::proofs::HexText::colons_last))]
 pub(crate) fn write_groups<W: fmt::Write>(groups: &[u16], f: &mut fmt::Formatter<W>) -> fmt::Result
     ensures { WritesOnOk W.write_str_gives f.old result (colons groups.now) f.new }
 {
-    if groups.is_empty() {
-        Ok(())
-    } else if groups.len() == 1 {
-        write_hex(groups[0] as u128, f)
-    } else {
-        write_hex(groups[0] as u128, f)?;
-        f.write_str(":")?;
-        write_groups(&groups[1..], f)
+    match groups {
+        [] => Ok(()),
+        [last] => write!(f, "{last:x}"),
+        [first, rest @ ..] => {
+            write!(f, "{first:x}:")?;
+            write_groups(rest, f)
+        }
     }
 }
 
@@ -50,8 +50,5 @@ fn digit(n: u128) -> char
     requires { n < 16 }
     ensures { result ≡ digit_char n }
 {
-    match char::from_digit(n as u32, 16) {
-        Some(c) => c,
-        None => unreachable(),
-    }
+    char::from_digit(n as u32, 16).unwrap()
 }

@@ -8,6 +8,7 @@ use crate::split::split_once;
 use std::fmt;
 
 // The address that the text writes: four octets in decimal, the most significant first, with dots between.
+#[tactic(auto, using(crate::proofs::Dotted::dotted_exact))]
 pub fn parse_ipv4(text: &[u8]) -> Option<u32>
     ensures value { result ≡ read4 text.now }
     ensures written { MatchOption result ((a : ℕ) → a < 2 ^ 32 → dotted a ≢ text.now) (λ a. (a < 2 ^ 32) × (dotted a ≡ text.now)) }
@@ -30,12 +31,11 @@ fn parse_octet_and_dot(text: &[u8]) -> Option<(u8, &[u8])>
 fn parse_octet(text: &[u8]) -> Option<u8>
     ensures { result ≡ read_octet text.now }
 {
-    let octet = parse_decimal(text, 255)?;
-    Some(octet as u8)
+    parse_decimal(text, 255).map(|octet| octet as u8)
 }
 
 // An address that is written in dotted form.
-#[derive(Clone, Copy)]
+#[derive(Clone, Copy, PartialEq, Eq, Debug)]
 pub struct Ipv4Text(pub u32);
 
 impl fmt::Display for Ipv4Text {

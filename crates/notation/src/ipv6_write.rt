@@ -5,14 +5,14 @@ ghost use Rattle.std.specs.Bool.{then_some};
 ghost use Rattle.std.specs.Fmt.{WritesOnOk};
 ghost use Rattle.notation.specs.Ipv6Text.{groups_of, groups_text, is_mapped, text6};
 
-use crate::groups::GROUP_VALUES;
 use crate::hex::write_groups;
 use crate::ipv4::Ipv4Text;
-use crate::zero_run::longest_zero_run;
+use crate::zero_run::shortened_run;
 use std::fmt;
+use std::net::Ipv6Addr;
 
 // An address that is written with lower-case digits, no leading zeros, and `::` for the longest run of zeros.
-#[derive(Clone, Copy)]
+#[derive(Clone, Copy, PartialEq, Eq, Debug)]
 pub struct Ipv6Text(pub u128);
 
 impl Ipv6Text {
@@ -20,11 +20,8 @@ impl Ipv6Text {
     fn mapped_ipv4(&self) -> Option<Ipv4Text>
         ensures { option_map (λ x. x.0) result ≡ then_some (is_mapped self.now.0) (self.now.0 % 2 ^ 32) }
     {
-        if self.0 / (1 << 32) == 0xffff {
-            Some(Ipv4Text((self.0 % (1 << 32)) as u32))
-        } else {
-            None
-        }
+        let is_mapped = self.0 / (1 << 32) == 0xffff;
+        is_mapped.then_some(Ipv4Text((self.0 % (1 << 32)) as u32))
     }
 }
 
@@ -43,37 +40,19 @@ impl fmt::Display for Ipv6Text {
 fn write_shortened<W: fmt::Write>(groups: &[u16], f: &mut fmt::Formatter<W>) -> fmt::Result
     ensures { WritesOnOk W.write_str_gives f.old result (groups_text groups.now) f.new }
 {
-    let run = longest_zero_run(groups);
-    if !run.is_shortened() {
-        return write_groups(groups, f);
+    match shortened_run(groups) {
+        None => write_groups(groups, f),
+        Some(run) => {
+            write_groups(&groups[..run.start], f)?;
+            f.write_str("::")?;
+            write_groups(&groups[run.end..], f)
+        }
     }
-    let start = run.start;
-    let end = run.start + run.len;
-    write_groups(&groups[0..start], f)?;
-    f.write_str("::")?;
-    write_groups(&groups[end..], f)
 }
 
 // The eight groups, the most significant first.
 fn groups_of(address: u128) -> [u16; 8]
     ensures { result ≡ groups_of 8 address }
 {
-    [
-        group(address, 7),
-        group(address, 6),
-        group(address, 5),
-        group(address, 4),
-        group(address, 3),
-        group(address, 2),
-        group(address, 1),
-        group(address, 0),
-    ]
-}
-
-// The group with `place` groups after it.
-fn group(address: u128, place: u32) -> u16
-    requires { place < 8 }
-    ensures { result ≡ address / 65536 ^ place % 65536 }
-{
-    (address / GROUP_VALUES.pow(place) % GROUP_VALUES) as u16
+    Ipv6Addr::from_bits(address).segments()
 }

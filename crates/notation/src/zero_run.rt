@@ -1,42 +1,30 @@
 // The run of zeros that `::` replaces in a written IPv6 address.
-ghost use Rattle.std.specs.Prelude.{◌≡◌, ◌+◌, ◌<◌, ◌≤◌, length, take, drop, replicate, Some, nat_le, nat_lt};
+ghost use Rattle.std.specs.Prelude.{◌≡◌, ◌-◌, ◌<◌, ◌≤◌, length, take, drop, replicate, Some, IfSome};
+ghost use Rattle.std.specs.Option.{option_map};
 ghost use Rattle.notation.specs.Cut.{cut};
-ghost use Rattle.notation.specs.Ipv6Text.{leading_zeros, longest_run};
+ghost use Rattle.notation.specs.Ipv6Text.{leading_zeros, longest_run, zero_sides};
 
-#[derive(Clone, Copy)]
-pub(crate) struct ZeroRun {
-    pub(crate) start: usize,
-    pub(crate) len: usize,
-}
+use std::ops::Range;
 
-impl ZeroRun {
-    fn is_longer_than(self, other: ZeroRun) -> bool
-        ensures { result ≡ nat_lt other.len self.len }
-    {
-        self.len > other.len
-    }
-
-    // A single group of zeros is not shortened.
-    pub(crate) fn is_shortened(self) -> bool
-        ensures { result ≡ nat_le 2 self.len }
-    {
-        self.len >= 2
-    }
+// The run that `::` replaces: the longest, and the first of equally long ones. A single group of zeros stays.
+pub(crate) fn shortened_run(groups: &[u16]) -> Option<Range<usize>>
+    ensures sides { option_map (λ run. (take run.start groups.now, drop run.end groups.now)) result ≡ zero_sides groups.now }
+    ensures within { IfSome result (λ run. (run.start ≤ run.end) × (run.end ≤ length groups.now)) }
+{
+    Some(longest_zero_run(groups)).filter(|run| run.len() >= 2)
 }
 
 // The longest run of zeros, and the first of equally long ones.
-pub(crate) fn longest_zero_run(groups: &[u16]) -> ZeroRun
-    ensures longest { result.len ≡ longest_run groups.now }
-    ensures within { result.start + result.len ≤ length groups.now }
-    ensures first { 0 < result.len → cut (replicate result.len 0) groups.now ≡ Some (take result.start groups.now, drop (result.start + result.len) groups.now) }
+fn longest_zero_run(groups: &[u16]) -> Range<usize>
+    ensures ordered { result.start ≤ result.end }
+    ensures within { result.end ≤ length groups.now }
+    ensures longest { result.end - result.start ≡ longest_run groups.now }
+    ensures first { result.start < result.end → cut (replicate (longest_run groups.now) 0) groups.now ≡ Some (take result.start groups.now, drop result.end groups.now) }
 {
-    let mut longest = ZeroRun { start: 0, len: 0 };
+    let mut longest = 0..0;
     for start in 0..groups.len() {
-        let run = ZeroRun {
-            start,
-            len: leading_zeros(&groups[start..]),
-        };
-        if run.is_longer_than(longest) {
+        let run = start..start + leading_zeros(&groups[start..]);
+        if run.len() > longest.len() {
             longest = run;
         }
     }
@@ -45,12 +33,8 @@ pub(crate) fn longest_zero_run(groups: &[u16]) -> ZeroRun
 
 // How many zeros the groups begin with.
 fn leading_zeros(groups: &[u16]) -> usize
-    ensures { result ≡ leading_zeros groups.now }
+    ensures value { result ≡ leading_zeros groups.now }
+    ensures within { result ≤ length groups.now }
 {
-    for (i, group) in groups.iter().enumerate() {
-        if *group != 0 {
-            return i;
-        }
-    }
-    groups.len()
+    groups.iter().take_while(|group| **group == 0).count()
 }

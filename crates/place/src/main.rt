@@ -3,34 +3,23 @@
 //! only moves bytes.
 #![tactic(auto)]
 
-use anyhow::anyhow;
+use anyhow::Context;
 use layout::named::named;
-use lines::line::without_end;
 use memory::word::WordStore;
 use placement::listing::listing;
 use placement::placer::Placer;
+use placement::text::AnswerText;
 use std::io::{BufRead, BufReader};
 
 fn main(rt: HostRuntime) -> anyhow::Result<()> {
-    run(&rt)
-}
-
-fn run(rt: &HostRuntime) -> anyhow::Result<()> {
     let heap = rt.alloc();
-    let Some(layout) = named("v4-small") else {
-        return Err(anyhow!("no list has this name"));
-    };
+    let layout = named("v4-small").context("no list has this name")?;
     // 256 buckets of 4 slots
     let mut words = [0u64; 1024];
     let mut placer = Placer::new(layout, WordStore::new(&mut words, 4));
-    let mut input = BufReader::new(heap, rt.stdin())?;
-    let mut line = Vec::new(heap);
-    for _ in 0..u64::MAX {
-        line.clear();
-        if input.read_until(b'\n', &mut line)? == 0 {
-            break;
-        }
-        rt.println(placer.answer(without_end(&line)))?;
+    let input = BufReader::new(heap, rt.stdin())?;
+    for line in input.split(heap, b'\n') {
+        rt.println(AnswerText(placer.answer(&line?)))?;
     }
     rt.print(listing(heap, placer.store())?)?;
     Ok(())

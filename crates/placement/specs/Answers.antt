@@ -6,8 +6,8 @@ use Rattle.store.specs.Grids.{Grid, Unchanged}
 use Rattle.store.specs.declared.place.Place.{Place}
 use Rattle.placement.specs.Lines.{read_placing}
 use Rattle.placement.specs.Placements.{numbered, Placed}
-use Rattle.placement.specs.declared.answer.Answer.{Answer}
-use Rattle.placement.specs.declared.answer.Answer.TheVariants.{Written, Unreadable, Faulty}
+use Rattle.placement.specs.declared.answer.LineFault.{LineFault}
+use Rattle.placement.specs.declared.answer.LineFault.TheVariants.{Unreadable, NotPlaced}
 use Rattle.placement.specs.declared.placer.PlaceFault.{PlaceFault}
 use Rattle.placement.specs.declared.placing.Placing.{Placing}
 
@@ -18,13 +18,7 @@ pub record Asked (layout : Layout) (line : List ℕ) (before : Grid) (result : R
   pub placed : Placed 32 layout (numbered (λ a. a.0) placing) before result after
 
 -- a line that can't be read changes nothing
-abbrev pub Answered : Layout → List ℕ → Grid → Answer → Grid → Type 0
-Answered layout line before (Written place) after = Asked layout line before (Ok place) after
-Answered layout line before Unreadable after = (read_placing line ≡ None) × Unchanged before after
-Answered layout line before (Faulty fault) after = Asked layout line before (Err fault) after
-
--- only what is written changes the store
-abbrev pub Kept : {S : Type 0} → Answer → S → S → Type 0
-Kept (Written place) before after = Unit {0}
-Kept Unreadable before after = after ≡ before
-Kept (Faulty fault) before after = after ≡ before
+abbrev pub Answered : Layout → List ℕ → Grid → Result Place LineFault → Grid → Type 0
+Answered layout line before (Ok place) after = Asked layout line before (Ok place) after
+Answered layout line before (Err Unreadable) after = (read_placing line ≡ None) × Unchanged before after
+Answered layout line before (Err (NotPlaced fault)) after = Asked layout line before (Err fault) after

@@ -1,17 +1,33 @@
 -- The occupied places of a store over words, in words. Assumes nothing.
-use Rattle.std.specs.Prelude.{ℕ, zero, suc, ◌+◌, ◌*◌, cond, List, [], ◌∷◌, ◌++◌, length, Some, None, codes, decimal, Option, slice_index}
+use Rattle.std.specs.Prelude.{ℕ, ◌+◌, ◌*◌, ◌&&◌, List, [], ◌∷◌, ◌++◌, length, codes, decimal, Option, option_and_then, nat_lt, slice_index}
+use Rattle.std.specs.Bool.{then_some}
+use Rattle.std.specs.List.{flat_map, filter_map}
 use Rattle.std.specs.Option.{option_map}
 use Rattle.notation.specs.Hexadecimal.{hex}
-use Rattle.memory.specs.Slices.{filled, slice_shape}
+use Rattle.memory.specs.Slices.{slice_shape}
 use Rattle.memory.specs.Words.{word_content}
+use Rattle.memory.specs.declared.slice_store.SliceStore.{SliceStore}
+use Rattle.store.specs.Places.{all_places}
+use Rattle.store.specs.Texts.{place_text}
 use Rattle.store.specs.declared.place.Entry.{Entry}
+use Rattle.store.specs.declared.place.Place.{Place}
 use Rattle.store.specs.declared.shape.Shape.{Shape}
-use Rattle.placement.specs.Texts.{place_text}
 use Rattle.placement.specs.declared.listing.Occupied.{Occupied}
 
--- the shape of a store over the words, which has no places where B buckets of S slots do not fill them exactly
-abbrev pub word_shape : List ℕ → ℕ → ℕ → Shape
-word_shape words B S = slice_shape 28 (length words) B S
+-- the shape of a store over words, which has no places where its buckets do not fill its memory exactly
+abbrev pub shape_of : {g : _} → SliceStore ℕ g → Shape
+shape_of store = slice_shape 28 (length store.elements.now) store.buckets store.slots
+
+-- the word of slot s of bucket b, which is word b × slots + s, or that there is no such place
+abbrev pub word_at : {g : _} → SliceStore ℕ g → Place → Option ℕ
+word_at store p =
+    then_some (nat_lt p.bucket (shape_of store).buckets && nat_lt p.slot (shape_of store).slots)
+    (slice_index store.elements.now (p.bucket * store.slots + p.slot))
+
+-- what stands there
+abbrev pub occupied_at : {g : _} → SliceStore ℕ g → Place → Option Occupied
+occupied_at store p =
+    option_and_then (λ w. option_map (λ (e : Entry). record { place = p; word = w; entry = e }) (word_content w)) (word_at store p)
 
 -- the place, its word, and what that holds
 abbrev pub occupied_text : Occupied → List ℕ
@@ -20,27 +36,14 @@ occupied_text o =
     ++ (codes ", tread " ++ (decimal o.entry.tread ++ (codes ", digest 0x" ++ (hex o.entry.digest
     ++ (codes ", hop " ++ decimal o.entry.hop)))))))))
 
--- slot s of bucket b is word b × S + s
-abbrev pub occupied_at : List ℕ → ℕ → ℕ → ℕ → Option Occupied
-occupied_at words S b s =
-    option_map (λ (e : Entry). record { place = record { bucket = b; slot = s }; word = slice_index words (b * S + s); entry = e })
-    (word_content (slice_index words (b * S + s)))
+-- a line of it
+abbrev pub line_of : Occupied → List ℕ
+line_of o = occupied_text o ++ (10 ∷ [])
 
--- a line for what is occupied, and nothing for what is not
-abbrev pub line_of : Option Occupied → List ℕ
-line_of None = []
-line_of (Some o) = occupied_text o ++ (10 ∷ [])
+-- a line for each of those places that is occupied
+abbrev pub lines_of : {g : _} → SliceStore ℕ g → List Place → List ℕ
+lines_of store places = flat_map line_of (filter_map (occupied_at store) places)
 
--- the lines of the first n slots of bucket b
-abbrev pub slot_lines : List ℕ → ℕ → ℕ → ℕ → List ℕ
-slot_lines words S b zero = []
-slot_lines words S b (suc s) = slot_lines words S b s ++ line_of (occupied_at words S b s)
-
--- the lines of the first n buckets
-abbrev pub bucket_lines : List ℕ → ℕ → ℕ → List ℕ
-bucket_lines words S zero = []
-bucket_lines words S (suc b) = bucket_lines words S b ++ slot_lines words S b S
-
--- the lines of all B buckets, or none where the store has no places
-abbrev pub listing_of : List ℕ → ℕ → ℕ → List ℕ
-listing_of words B S = cond (filled (length words) B S) (bucket_lines words S B) []
+-- the lines of all places, in order of bucket and then slot
+abbrev pub listing_of : {g : _} → SliceStore ℕ g → List ℕ
+listing_of store = lines_of store (all_places (shape_of store))

@@ -1,5 +1,5 @@
 -- What it means to place a prefix by hand. Assumes nothing.
-use Rattle.std.specs.Prelude.{◌≡◌, ℕ, ◌-◌, ◌%◌, ◌^◌, ◌<◌, ◌≤◌, List, length, Some, Ok, Err, Result, ◌≢◌, slice_index_or}
+use Rattle.std.specs.Prelude.{◌≡◌, ℕ, ◌-◌, ◌%◌, ◌^◌, ◌<◌, ◌≤◌, List, length, Some, Ok, Err, Result, ◌≢◌, slice_index}
 use Rattle.layout.specs.Addresses.{IsPrefix}
 use Rattle.layout.specs.Admission.{colony, digest}
 use Rattle.layout.specs.Layouts.{treads_of}
@@ -20,7 +20,7 @@ numbered number p =
 -- the tread has number k: its position in the list, from 0
 pub record HasNumber (treads : List ℕ) (tread k : ℕ) : Type 0 where
   pub within : k < length treads
-  pub is : slice_index_or treads k 0 ≡ tread
+  pub is : slice_index treads k ≡ tread
 
 -- the list has no such tread
 abbrev pub NoTread : List ℕ → ℕ → Type 0

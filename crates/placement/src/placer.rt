@@ -2,11 +2,13 @@
 ghost use Rattle.std.specs.Prelude.{◌≡◌, ◌≤◌, length as count, MatchOption, OnErr};
 ghost use Rattle.store.specs.Grids.{Emptied};
 ghost use Rattle.placement.specs.Placements.{HasNumber, NoTread, numbered, Allows, Placed};
+ghost use Rattle.placement.specs.declared.placer.PlaceFault.TheVariants.{Refused};
 
 use crate::placing::Placing;
 use family::family::Family;
 use family::prefixes::{colony, digest, is_prefix};
 use layout::layout::Layout;
+use std::error::Error;
 use store::bucket_store::BucketStore;
 use store::clear::clear;
 use store::place::{Entry, Place};
@@ -34,13 +36,22 @@ pub enum PlaceFault {
     Refused(WriteRefusal),
 }
 
+impl Error for PlaceFault {}
+
+impl From<WriteRefusal> for PlaceFault {
+    ghost from_gives = { λ refusal fault. fault ≡ Refused refusal };
+
+    fn from(refusal: WriteRefusal) -> PlaceFault {
+        PlaceFault::Refused(refusal)
+    }
+}
+
 impl<S: BucketStore> Placer<S> {
     // The store is emptied first.
-    pub fn new(layout: Layout, store: S) -> Placer<S>
+    pub fn new(layout: Layout, mut store: S) -> Placer<S>
         ensures layout { result.layout ≡ layout }
         ensures emptied { Emptied (S.grid store) (S.grid result.store) }
     {
-        let mut store = store;
         clear(&mut store);
         Placer { layout, store }
     }
@@ -58,10 +69,8 @@ impl<S: BucketStore> Placer<S> {
         ensures refused { OnErr result (self.new.store ≡ self.old.store) }
     {
         let (place, entry) = allowed(&self.layout, placing)?;
-        match self.store.write(place, Some(entry)) {
-            Ok(()) => Ok(place),
-            Err(refusal) => Err(PlaceFault::Refused(refusal)),
-        }
+        self.store.write(place, Some(entry))?;
+        Ok(place)
     }
 }
 
@@ -76,9 +85,7 @@ fn allowed<F: Family>(layout: &Layout, placing: Placing<F>) -> Result<(Place, En
     if !is_prefix(placing.address, length) {
         return Err(PlaceFault::BitsAfterLength);
     }
-    let Some(number) = tread_number(layout.treads(), placing.tread) else {
-        return Err(PlaceFault::UnknownTread);
-    };
+    let number = tread_number(layout.treads(), placing.tread).ok_or(PlaceFault::UnknownTread)?;
     if placing.tread > placing.length {
         return Err(PlaceFault::TreadBeyondLength);
     }
@@ -102,10 +109,8 @@ fn tread_number(treads: &[u8], tread: u32) -> Option<u8>
     requires { count treads.now ≤ 40 }
     ensures { MatchOption result (NoTread treads.now tread) (λ k. HasNumber treads.now tread k) }
 {
-    for (number, length) in treads.iter().enumerate() {
-        if u32::from(*length) == tread {
-            return Some(number as u8);
-        }
-    }
-    None
+    let number = treads
+        .iter()
+        .position(|length| u32::from(*length) == tread)?;
+    Some(number as u8)
 }

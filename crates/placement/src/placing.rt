@@ -1,5 +1,5 @@
 // A line `ADDRESS/LENGTH TREAD SLOT HOP`, and what it asks for.
-ghost use Rattle.std.specs.Prelude.{◌≡◌, ◌≤◌, IfSome};
+ghost use Rattle.std.specs.Prelude.{◌≡◌};
 ghost use Rattle.std.specs.Option.{option_map};
 ghost use Rattle.placement.specs.Lines.{read_number, read_number_and_space, read_placing};
 
@@ -10,7 +10,7 @@ use notation::split::split_once;
 
 // A prefix that is to stand under a tread, in a slot of its bucket there. A tread is a prefix length at which routes
 // may stand.
-#[derive(Clone, Copy)]
+#[derive(Clone, Copy, PartialEq, Eq, Debug)]
 pub struct Placing<F> {
     pub address: F,
     pub length: u32,
@@ -18,9 +18,6 @@ pub struct Placing<F> {
     pub slot: u32,
     pub hop: u16,
 }
-
-// No larger number is read, so that every number that is read fits its type.
-const LARGEST: u32 = 65_535;
 
 // What the line asks for, with one space between fields and none elsewhere.
 pub fn read_placing(line: &[u8]) -> Option<Placing<Ipv4Address>>
@@ -34,23 +31,23 @@ pub fn read_placing(line: &[u8]) -> Option<Placing<Ipv4Address>>
     Some(Placing {
         address: Ipv4Address(address as u32),
         length,
-        tread,
-        slot,
-        hop: hop as u16,
+        tread: u32::from(tread),
+        slot: u32::from(slot),
+        hop,
     })
 }
 
 // The number before the first space, and the text after that space.
-fn read_number_and_space(text: &[u8]) -> Option<(u32, &[u8])>
+fn read_number_and_space(text: &[u8]) -> Option<(u16, &[u8])>
     ensures { option_map (λ p. (p.0, p.1.now)) result ≡ read_number_and_space text.now }
 {
     let (number, rest) = split_once(text, b" ")?;
     Some((read_number(number)?, rest))
 }
 
-fn read_number(text: &[u8]) -> Option<u32>
-    ensures value { result ≡ read_number text.now }
-    ensures bound { IfSome result (λ n. n ≤ 65535) }
+// A decimal number from 0 to 65,535.
+fn read_number(text: &[u8]) -> Option<u16>
+    ensures { result ≡ read_number text.now }
 {
-    parse_decimal(text, LARGEST)
+    parse_decimal(text, u32::from(u16::MAX)).map(|number| number as u16)
 }

@@ -1,5 +1,5 @@
 -- A write to one half of an interleave. Assumes nothing.
-use Rattle.std.proofs.Common.{◌≡◌, ℕ, ◌*◌, ◌/◌, ◌^◌, ◌≤◌, min, Bool, true, false, cond, ◌⊎◌, IfErr, Some, None, Ok, Err, Option, Result, sym, refl, ap, ◌∙◌, subst, inl, inr, ⊎_elim, arith, pow_mono}
+use Rattle.std.proofs.Common.{◌≡◌, ℕ, ◌*◌, ◌/◌, ◌^◌, ◌≤◌, min, Bool, true, false, cond, ◌⊎◌, Some, None, Ok, Err, Option, Result, sym, refl, ap, ◌∙◌, subst, inl, inr, ⊎_elim, arith, pow_mono}
 use Rattle.std.proofs.lemmas.Bool.{and_parts, eqb-true, cases_Bool, true≢false, false≢true}
 use Rattle.std.proofs.lemmas.Bool.Decides.{nat_tests}
 use Rattle.store.specs.declared.place.Entry.{Entry}
@@ -107,9 +107,3 @@ module _ (f g h : Grid) (b s : ℕ) (content : Option Entry) (shape : Shape) (is
   second_written (Err r) e writes =
       absurd (not_refused g.shape (b / 2) s content r (half_takes f g false b s content taken)
       (subst (λ p. Refused g.shape p.bucket p.slot content r) halved writes.0))
-
--- a refused write to a part leaves the whole as it was
-pub refused_part : {U X Y : Type 0} (whole : X → Y) (r : Result U WriteRefusal) (before after : X)
-    → IfErr r (λ _. after ≡ before) → IfErr r (λ _. whole after ≡ whole before)
-refused_part whole (Ok u) before after same = tt
-refused_part whole (Err e) before after same = ap whole same

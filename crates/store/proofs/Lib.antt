@@ -2,3 +2,5 @@ pub mod Bounds
 pub mod Taken
 pub mod Below
 pub mod Halves
+pub mod Listed
+pub mod Emptying

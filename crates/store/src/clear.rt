@@ -2,16 +2,12 @@
 ghost use Rattle.store.specs.Grids.{Emptied};
 
 use crate::bucket_store::BucketStore;
-use crate::place::Place;
 
 // Sets every place to nothing.
 pub fn clear<S: BucketStore>(store: &mut S)
     ensures { Emptied (S.grid store.old) (S.grid store.new) }
 {
-    let shape = store.shape();
-    for bucket in 0..shape.buckets {
-        for slot in 0..shape.slots {
-            let _ = store.write(Place { bucket, slot }, None);
-        }
+    for place in store.shape().places() {
+        let _ = store.write(place, None);
     }
 }

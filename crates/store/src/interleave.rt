@@ -30,9 +30,7 @@ impl<F: BucketStore, G: BucketStore> BucketStore for Interleave<F, G> {
     }
 
     fn read(&self, place: Place) -> Result<Option<Entry>, NoPlace> {
-        if !self.shape().has(place) {
-            return Err(NoPlace);
-        }
+        self.shape().check_place(place)?;
         if is_even(place.bucket) {
             self.first.read(half(place))
         } else {
@@ -53,10 +51,10 @@ impl<F: BucketStore, G: BucketStore> BucketStore for Interleave<F, G> {
 fn interleaved_shape(first: Shape, second: Shape) -> Shape
     ensures { result ≡ interleaved_shape first second }
 {
-    let alike = (first.buckets == second.buckets) & (first.slots == second.slots);
+    let alike = first.buckets == second.buckets && first.slots == second.slots;
     let few = first.buckets <= MAX_BUCKETS / 2;
     Shape {
-        buckets: if alike & few { 2 * first.buckets } else { 0 },
+        buckets: if alike && few { 2 * first.buckets } else { 0 },
         slots: first.slots,
         digest_bits: first.digest_bits.min(second.digest_bits),
     }

@@ -6,4 +6,5 @@ pub mod bucket_store;
 pub mod clear;
 pub mod interleave;
 pub mod place;
+pub mod places;
 pub mod shape;

@@ -1,5 +1,9 @@
 // The places of a store, and what may stand there.
-ghost use Rattle.std.specs.Prelude.{◌≡◌, ◌+◌, ◌*◌};
+ghost use Rattle.std.specs.Prelude.{◌≡◌, ◌+◌, ◌*◌, Some};
+ghost use Rattle.store.specs.Texts.{place_text, no_place_text};
+
+use std::error::Error;
+use std::fmt;
 
 // A slot of a bucket, both counted from 0.
 #[derive(Clone, Copy, PartialEq, Eq, Debug)]
@@ -14,6 +18,15 @@ impl Place {
         ensures { result ≡ self.now.bucket * slots + self.now.slot }
     {
         self.bucket as usize * slots as usize + self.slot as usize
+    }
+}
+
+impl fmt::Display for Place {
+    ghost output = { λ x. Some (place_text x) };
+
+    fn fmt<W: fmt::Write>(&self, f: &mut fmt::Formatter<W>) -> fmt::Result {
+        let Place { bucket, slot } = *self;
+        write!(f, "bucket 0x{bucket:x}, slot {slot}")
     }
 }
 
@@ -33,3 +46,13 @@ pub struct Entry {
 // The store has no such place.
 #[derive(Clone, Copy, PartialEq, Eq, Debug)]
 pub struct NoPlace;
+
+impl fmt::Display for NoPlace {
+    ghost output = { λ _. Some no_place_text };
+
+    fn fmt<W: fmt::Write>(&self, f: &mut fmt::Formatter<W>) -> fmt::Result {
+        f.write_str("there is no such place")
+    }
+}
+
+impl Error for NoPlace {}

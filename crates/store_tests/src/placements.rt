@@ -6,6 +6,7 @@ use memory::word::WordStore;
 use placement::listing::listing;
 use placement::placer::{PlaceFault, Placer};
 use placement::placing::Placing;
+use placement::text::AnswerText;
 use std::test::Fail;
 use store::bucket_store::BucketStore;
 use store::interleave::Interleave;
@@ -14,9 +15,7 @@ use store::shape::WriteRefusal;
 
 #[test]
 fn lines(rt: HostRuntime) -> Result<(), Fail> {
-    let Some(layout) = named("v4-small") else {
-        return Err(Fail::new("no list"));
-    };
+    let layout = named("v4-small").ok_or_else(|| Fail::new("no list"))?;
     let mut words = [u64::MAX; 1024];
     let mut placer = Placer::new(layout, WordStore::new(&mut words, 4));
     for (line, text) in [
@@ -32,7 +31,7 @@ fn lines(rt: HostRuntime) -> Result<(), Fail> {
             "the length is beyond the width of the address",
         ),
     ] {
-        let answer = placer.answer(line.as_bytes());
+        let answer = AnswerText(placer.answer(line.as_bytes()));
         assert!(rt; answer.to_string(rt.alloc())?.as_str() == text);
     }
     let text = listing(rt.alloc(), placer.store())?;
@@ -46,9 +45,7 @@ fn lines(rt: HostRuntime) -> Result<(), Fail> {
 // The entry stands where the placer said, in an interleave of four stores of words.
 #[test]
 fn nested_interleaves(rt: HostRuntime) -> Result<(), Fail> {
-    let Some(layout) = named("v4-small") else {
-        return Err(Fail::new("no list"));
-    };
+    let layout = named("v4-small").ok_or_else(|| Fail::new("no list"))?;
     let mut first = [u64::MAX; 256];
     let mut second = [u64::MAX; 256];
     let mut third = [u64::MAX; 256];

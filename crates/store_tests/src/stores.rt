@@ -21,49 +21,27 @@ const ENTRY: Entry = Entry {
 // The layout of a word, field by field, at the largest and the smallest.
 #[test]
 fn words(rt: HostRuntime) {
+    let zero = Entry {
+        digest: 0,
+        hop: 0,
+        length: 0,
+        tread: 0,
+    };
     for (entry, word) in [
-        (
-            Entry {
-                digest: 0,
-                hop: 0,
-                length: 0,
-                tread: 0,
-            },
-            1 << 54,
-        ),
+        (zero, 1 << 54),
         (
             Entry {
                 digest: 0xFFF_FFFF,
-                hop: 0,
-                length: 0,
-                tread: 0,
+                ..zero
             },
             0x0040_0000_0FFF_FFFF,
         ),
+        (Entry { hop: 4095, ..zero }, 0x0040_00FF_F000_0000),
+        (Entry { tread: 39, ..zero }, 0x0040_2700_0000_0000),
         (
             Entry {
-                digest: 0,
-                hop: 4095,
-                length: 0,
-                tread: 0,
-            },
-            0x0040_00FF_F000_0000,
-        ),
-        (
-            Entry {
-                digest: 0,
-                hop: 0,
-                length: 0,
-                tread: 39,
-            },
-            0x0040_2700_0000_0000,
-        ),
-        (
-            Entry {
-                digest: 0,
-                hop: 0,
                 length: 128,
-                tread: 0,
+                ..zero
             },
             0x0060_0000_0000_0000,
         ),
@@ -89,6 +67,50 @@ fn records(rt: HostRuntime) {
         assert_eq!(rt; Record { occupied, ..record }.decode(), None);
     }
     assert_eq!(rt; <Record as Encoded>::encode(None), BLANK);
+}
+
+// The places of a shape, in order.
+#[test]
+fn places(rt: HostRuntime) {
+    let shape = Shape {
+        buckets: 2,
+        slots: 3,
+        digest_bits: 28,
+    };
+    let mut places = shape.places();
+    for (bucket, slot) in [(0, 0), (0, 1), (0, 2), (1, 0), (1, 1), (1, 2)] {
+        assert_eq!(rt; places.next(), Some(Place { bucket, slot }));
+    }
+    assert_eq!(rt; places.next(), None);
+    for (buckets, slots, count) in [(65_536, 8, 524_288), (0, 3, 0), (3, 0, 0), (0, 0, 0)] {
+        let shape = Shape {
+            buckets,
+            slots,
+            ..shape
+        };
+        assert_eq!(rt; shape.places().count(), count);
+    }
+}
+
+// Places, missing places and refusals in words.
+#[test]
+fn texts(rt: HostRuntime) -> Result<(), Fail> {
+    let place = Place {
+        bucket: 0xD552,
+        slot: 3,
+    };
+    assert!(rt; place.to_string(rt.alloc())?.as_str() == "bucket 0xd552, slot 3");
+    assert!(rt; NoPlace.to_string(rt.alloc())?.as_str() == "there is no such place");
+    for (refusal, text) in [
+        (WriteRefusal::from(NoPlace), "it has no such place"),
+        (WriteRefusal::DigestTooWide, "the digest is too wide"),
+        (WriteRefusal::LengthTooLong, "the length is above 128"),
+        (WriteRefusal::TreadTooHigh, "the tread number is above 39"),
+        (WriteRefusal::HopTooHigh, "the hop number is above 4095"),
+    ] {
+        assert!(rt; refusal.to_string(rt.alloc())?.as_str() == text);
+    }
+    Ok(())
 }
 
 // Memory that S slots fill, and memory that they do not.
@@ -223,16 +245,19 @@ fn compare<S: BucketStore>(
 }
 
 fn same_places<S: BucketStore>(rt: &impl Abort, store: &S, shape: Shape, model: &[Option<Entry>]) {
-    for bucket in 0..shape.buckets.saturating_add(1) {
-        for slot in 0..shape.slots.saturating_add(1) {
-            let place = Place { bucket, slot };
+    // and what is not a place
+    let around = Shape {
+        buckets: shape.buckets.saturating_add(1),
+        slots: shape.slots.saturating_add(1),
+        ..shape
+    };
+    for place in around.places() {
+        if place.bucket < shape.buckets && place.slot < shape.slots {
             let at = place.position(shape.slots);
-            if bucket < shape.buckets && slot < shape.slots {
-                assert!(rt; at < model.len());
-                assert_eq!(rt; store.read(place), Ok(model[at]));
-            } else {
-                assert_eq!(rt; store.read(place), Err(NoPlace));
-            }
+            assert!(rt; at < model.len());
+            assert_eq!(rt; store.read(place), Ok(model[at]));
+        } else {
+            assert_eq!(rt; store.read(place), Err(NoPlace));
         }
     }
 }

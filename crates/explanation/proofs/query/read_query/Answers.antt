@@ -1,26 +1,28 @@
-use Rattle.std.proofs.Common.{◌^◌, ◌<◌, Err, sym, ap, ◌∙◌, subst}
-use Rattle.explanation.specs.Lines.{read_prefix}
-use Rattle.explanation.specs.Queries.{Answers}
+use Rattle.std.proofs.Common.{◌≡◌, ◌^◌, ◌<◌, [], ◌∷◌, Err, Some, sym, ap, ◌∙◌, subst}
+use Rattle.std.proofs.lemmas.Result.{err_from_is_err_and}
 use Rattle.layout.specs.Prefixes.{Made}
-use Rattle.explanation.proofs.Reading.{unread, faulty}
+use Rattle.lines.specs.Prefixes.{read_prefix}
+use Rattle.notation.specs.Cut.{cut}
+use Rattle.explanation.specs.Queries.{Answers, Placed}
+use Rattle.explanation.proofs.Reading.{faulty}
 use Rattle.explanation.proofs.query.read_query.Goals as goal
 
-pub returns-in_default-read_prefix : goal.returns-in_default-read_prefix
-returns-in_default-read_prefix c =
-    let text = c.in-Some.text.now in
-    unread c.args.line.now c.in-Some.name.now text c.in-Some-layout_named.layout
-    (sym c.in-Some.ensures) c.in-Some-layout_named.ensures
-    (ap (λ x. read_prefix x.bits text) (sym c.width.ensures) ∙ sym c.read_prefix.ensures.value ∙ c.in_default-read_prefix.is)
-
-pub returns-in-Err : goal.returns-in-Err
-returns-in-Err c =
+pub returns-in_err-prefix : goal.returns-in_err-prefix
+returns-in_err-prefix c =
     let line = c.args.line.now in
-    let text = c.in-Some.text.now in
-    let layout = c.in-Some-layout_named.layout in
-    let P = c.in-Some-read_prefix.address in
-    let w = c.in-Some-read_prefix.length in
-    subst (λ f. Answers line (Err f)) (sym c.line_fault.ensures)
-    (faulty line c.in-Some.name.now text layout (sym c.in-Some.ensures) c.in-Some-layout_named.ensures P w c.in-Err.fault
-    (ap (λ x. read_prefix x.bits text) (sym c.width.ensures) ∙ sym c.in-Some-read_prefix.ensures.value)
-    (subst (λ x. P < 2 ^ x.bits) c.width.ensures c.in-Some-read_prefix.ensures.bound)
-    (subst (λ x. Made x P w (Err c.in-Err.fault)) c.width-2.ensures c.in-Err.ensures))
+    let name = c.in_ok-name.name.now in
+    let text = c.in_ok-name.text.now in
+    let layout = c.in_ok-layout.layout in
+    let P = c.in_ok-address.address in
+    let w = c.in_ok-address.length in
+    let fault = c.in_err-prefix.field-0.0 in
+    let bits = c.bits.ensures ∙ ap (λ x. x.bits) c.width.ensures in
+    let cuts : cut (32 ∷ []) line ≡ Some (name, text) = sym (rw c.in_ok-name.ensures.ok_part at c.split_once.ensures) in
+    let placed : Placed name layout = rw c.in_ok-layout.ensures.ok_part at c.layout_named.ensures in
+    let reads : read_prefix layout.width.bits text ≡ Some (P, w) = ap (λ b. read_prefix b text) (sym bits) ∙ sym c.parse_prefix.ensures.value ∙ c.in_ok-address.ensures.ok_part in
+    let bound : P < 2 ^ c.bits.result = rw c.in_ok-address.ensures.ok_part at c.parse_prefix.ensures.bound in
+    let p = err_from_is_err_and c.from_residual-in_err-prefix.result c.from_residual-in_err-prefix.ensures.1 in
+    rw p.1 (subst (λ f. Answers line (Err f)) (sym p.2)
+    (faulty line name text layout cuts placed P w fault reads
+    (subst (λ b. P < 2 ^ b) bits bound)
+    (subst (λ x. Made x P w (Err fault)) c.width-2.ensures c.in_err-prefix.ensures)))

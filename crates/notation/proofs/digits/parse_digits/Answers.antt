@@ -3,9 +3,10 @@ use Rattle.std.proofs.Common.{◌≡◌, ◌+◌, ◌<◌, ◌≤◌, length, ge
 use Rattle.std.proofs.lemmas.List.{take_all}
 use Rattle.std.proofs.lemmas.Bool.Decides.{nat_tests}
 use Rattle.std.proofs.lemmas.Int.Digits.{digits_more}
+use Rattle.std.proofs.lemmas.Str.Parse.{digits_value-take-le}
 use Rattle.std.specs.Str.Parse.{AllDigits, digits_value}
 use Rattle.std.specs.Char.{digit_value}
-use Rattle.notation.proofs.Values.{value_step, value_take_le, refused_no_digit, refused_large, accepted}
+use Rattle.notation.proofs.Values.{value_step, refused_no_digit, refused_large, accepted}
 use Rattle.notation.proofs.digits.parse_digits.Goals as goal
 
 pub returns-in_err-digit : goal.returns-in_err-digit
@@ -18,7 +19,7 @@ pub returns-then-value-from : goal.returns-then-value-from
 returns-then-value-from c =
     let e = value_step c.args.radix c.args.text.now c.loop-byte.byte-index _ _ _ c.loop-byte-test.true c.loop-byte.invariant.1 (c.from-in-loop-byte-2.ensures ∙ c.in_ok-digit.ensures.value.1 ∙ ap digit_value c.from.ensures) c.from-in-loop-byte.ensures
     in let large : c.args.limit < digits_value c.args.radix c.args.text.now =
-    omega (arith, e, value_take_le c.args.radix c.args.text.now (c.loop-byte.byte-index + 1) (omega arith))
+    omega (arith, e, digits_value-take-le c.args.radix c.args.text.now (c.loop-byte.byte-index + 1) (omega arith))
     in sym (refused_large c.args.radix _ c.args.text.now large)
 
 pub loop-byte-preserved : goal.loop-byte-preserved

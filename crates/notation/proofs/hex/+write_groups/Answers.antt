@@ -1,18 +1,12 @@
--- The first group, a colon, and the rest.
-use Rattle.std.proofs.Common.{is_ok, sym, ap, ◌∙◌}
-use Rattle.std.proofs.Output.{has_written_of_eq, has_written_append, writes_in_calls_nil}
-use Rattle.notation.proofs.HexText.{colons_none, colons_one, colons_more}
+-- The first group with its colon, and the rest.
+use Rattle.std.proofs.Common.{is_ok, ap, arith}
+use Rattle.std.proofs.Output.{has_written_of_eq, has_written_append}
+use Rattle.notation.proofs.HexText.{colons_first}
 use Rattle.notation.proofs.hex.+write_groups.Goals as goal
 
-pub returns-then-is_empty : goal.returns-then-is_empty
-returns-then-is_empty g t c = λ plain ok. has_written_of_eq g.W.Write.write_str_gives _ _ _ _ (colons_none c.args.groups.now (sym c.is_empty.ensures ∙ c.if-is_empty.true)) (record { wrote = writes_in_calls_nil g.W.Write.write_str_gives _; plain = plain })
-
-pub returns-then-groups-eq1 : goal.returns-then-groups-eq1
-returns-then-groups-eq1 g t c = λ plain ok. has_written_of_eq g.W.Write.write_str_gives _ _ _ _ (colons_one c.args.groups.now c.if-groups-eq1.true) (c.write_hex.ensures plain ok)
-
-pub returns-in_ok-write_str : goal.returns-in_ok-write_str
-returns-in_ok-write_str g t c = λ plain ok.
-    let p = c.write_hex-else-groups-eq1.ensures plain (ap is_ok c.in_ok-write_hex.was) in
-    let q = c.write_str.ensures.writes p.plain (ap is_ok c.in_ok-write_str.was) in
-    let r = c.write_groups.ensures q.plain ok in
-    has_written_of_eq g.W.Write.write_str_gives _ _ _ _ (colons_more c.args.groups.now (sym c.is_empty.ensures ∙ c.if-is_empty.false) c.if-groups-eq1.false) (has_written_append g.W.Write.write_str_gives _ _ _ _ _ p (has_written_append g.W.Write.write_str_gives _ _ _ _ _ q r))
+pub returns-in_ok-write-in-len1-up : goal.returns-in_ok-write-in-len1-up
+returns-in_ok-write-in-len1-up g t c = λ plain ok.
+    let written = rw c.in_radix-in-len1-up.ensures at c.write-in-len1-up.ensures.writes in
+    let p = written plain (ap is_ok c.in_ok-write-in-len1-up.was) in
+    has_written_of_eq g.W.Write.write_str_gives _ _ _ _ (colons_first c.args.groups.now c.in-len1-up.len_at_least (omega (arith, c.type_inv.groups 0)))
+    (has_written_append g.W.Write.write_str_gives _ _ _ _ _ p (c.write_groups.ensures p.plain ok))

@@ -7,10 +7,7 @@ fits : (count value g : ℕ) → count < 8 → value < 65536 ^ count → g < 655
 fits count value g h k l = address_lt (count + 1) _ (omega arith) (group_lt count value g k l)
 
 pub overflow_mul-result : goal.overflow_mul-result
-overflow_mul-result c = omega (arith, fits c.args.self.count c.args.self.value 0 (omega arith) c.args.self.fits (omega arith))
+overflow_mul-result c = omega (arith, fits c.self.inside.count c.self.inside.value 0 (omega arith) c.self.invariant.1 (omega arith))
 
 pub overflow_add-result-2 : goal.overflow_add-result-2
-overflow_add-result-2 c = omega (arith, fits c.args.self.count c.args.self.value c.from.result (omega arith) c.args.self.fits (omega arith))
-
-pub invariant_of-result : goal.invariant_of-result
-invariant_of-result c = record { few = omega arith; fits = group_lt c.args.self.count c.args.self.value c.from.result c.args.self.fits (omega arith) }
+overflow_add-result-2 c = omega (arith, fits c.self.inside.count c.self.inside.value c.from.result (omega arith) c.self.invariant.1 (omega arith))
