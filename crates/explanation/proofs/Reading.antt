@@ -1,10 +1,13 @@
 -- What a line that is cut at its first space answers. Assumes nothing.
-use Rattle.std.proofs.Common.{◌≡◌, ℕ, zero, suc, ◌-◌, ◌%◌, ◌^◌, ◌<◌, ◌≤◌, List, [], ◌∷◌, get_or, Some, None, Ok, Err, Option, Result, MatchResult, codes, IsUtf8, sym, ap, ◌∙◌, subst, arith}
+use Rattle.std.proofs.Common.{◌≡◌, ℕ, ◌-◌, ◌%◌, ◌^◌, ◌<◌, ◌≤◌, List, [], ◌∷◌, Some, None, Ok, Err, Option, Result, MatchResult, codes, IsUtf8, sym, ap, ◌∙◌, subst, arith}
 use Rattle.std.proofs.lemmas.Str.{IsUtf8-from_ascii}
 use Rattle.std.proofs.ByRecursion.{IsAscii-from_all}
 use Rattle.std.specs.Result.{result_ok}
 use Rattle.notation.specs.Cut.{cut}
-use Rattle.layout.specs.Named.{rows, v4, NoName}
+use Rattle.layout.specs.Named.{row_of, NoName}
+use Rattle.layout.specs.Layouts.{width_of}
+use Rattle.layout.specs.declared.named.ListName.{ListName}
+use Rattle.layout.specs.declared.named.ListName.TheVariants.{V4, V4Small, V6}
 use Rattle.layout.specs.Prefixes.{Made}
 use Rattle.layout.specs.declared.layout.Layout.{Layout}
 use Rattle.layout.specs.declared.prefix.PrefixFault.{PrefixFault}
@@ -25,18 +28,6 @@ no_text P Q R (Err e) none m = m.0
 
 pub no_text_no_name : (name : List ℕ) → (IsUtf8 name → ⊥) → NoName name
 no_text_no_name name h list has = h (subst IsUtf8 has (named_utf8 list))
-
--- no two lists have one name: one is longer, and the others differ in their second letter
-abbrev list_of : List ℕ → ListName
-list_of name = cond (eqb (length name) 8) V4Small (cond (eqb (get_or name 1 0) 54) V6 V4)
-
-list_of_name : (list : ListName) → list_of (row_of list).name ≡ list
-list_of_name V4 = refl
-list_of_name V4Small = refl
-list_of_name V6 = refl
-
-same_list : (one two : ListName) (name : List ℕ) → HasName one name → HasName two name → one ≡ two
-same_list one two name a b = sym (list_of_name one) ∙ ap list_of (a ∙ sym b) ∙ list_of_name two
 
 module _ (line name rest : List ℕ) (layout : Layout) (cuts : cut (32 ∷ []) line ≡ Some (name, rest)) (placed : Placed name layout) where
   says : (P w : ℕ) → read_prefix (width_of layout).bits rest ≡ Some (P, w) → Says line placed.0 P w

@@ -63,7 +63,7 @@ fault_of PrefixUnclear = BitsAfterLength
 
 abbrev pub Answers : List ℕ → Result Query LineFault → Type 0
 Answers line (Ok q) = Means line q
-Answers line (Err Unreadable) = (¬ Unnamed line) × ((i P w : ℕ) → ¬ Says line i P w)
+Answers line (Err Unreadable) = (¬ Unnamed line) × ((list : ListName) (P w : ℕ) → ¬ Says line list P w)
 Answers line (Err UnknownList) = Unnamed line
 Answers line (Err LengthBeyondWidth) = TooLong line
 Answers line (Err BitsAfterLength) = Unclear line
