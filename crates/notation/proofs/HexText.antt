@@ -35,13 +35,13 @@ encode_digit : (c n : ℕ) → n < 16 → c ≡ digit_char n → encode c ≡ di
 encode_digit c n h e = ap encode e ∙ encode_ascii (digit_char n) (digit_char_lt n h)
 
 -- as they are written, digit by digit
-pub hex_short : (c n : ℕ) → n < 16 → c ≡ digit_char n → encode c ≡ hex n
-hex_short c n h e = encode_digit c n h e ∙ hex_one n h
+pub hex_short : (c n : ℕ) → n < 16 → c ≡ digit_char (n % 16) → encode c ≡ hex n
+hex_short c n h e = encode_digit c n h (e ∙ ap digit_char (mod-eq_of_lt h)) ∙ hex_one n h
 
 pub hex_long : (c n : ℕ) → 16 ≤ n → c ≡ digit_char (n % 16) → hex (n / 16) ++ encode c ≡ hex n
 hex_long c n h e = ap (λ l. hex (n / 16) ++ l) (encode_digit c (n % 16) (omega arith) e) ∙ hex_more n h
 
--- `{:x}` writes the same of a number that it says something of
+-- what `{:x}` writes of a number of 64 bits
 digits_onto_hex : (k n : ℕ) (acc : List ℕ) → n < 16 ^ k → 0 < k → digits_onto k 16 false n acc ≡ hex n ++ acc
 digits_onto_hex zero n acc h l = absurd (omega arith)
 digits_onto_hex (suc k) n acc h l =

@@ -35,7 +35,7 @@ sides_text groups (Some sides) = colons sides.0 ++ (colon ∷ colon ∷ colons s
 abbrev pub zero_sides : List ℕ → Option (List ℕ × List ℕ)
 zero_sides groups = if nat_lt (longest_run groups) 2 then None else cut (replicate (longest_run groups) 0) groups
 
--- this run becomes `::`
+-- that run becomes `::`
 abbrev pub groups_text : List ℕ → List ℕ
 groups_text groups = sides_text groups (zero_sides groups)
 

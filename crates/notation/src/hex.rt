@@ -38,12 +38,10 @@ pub(crate) fn write_groups<W: fmt::Write>(groups: &[u16], f: &mut fmt::Formatter
 fn write_hex<W: fmt::Write>(n: u128, f: &mut fmt::Formatter<W>) -> fmt::Result
     ensures { WritesOnOk W.write_str_gives f.old result (hex n) f.new }
 {
-    if n < 16 {
-        f.write_char(digit(n))
-    } else {
+    if n >= 16 {
         write_hex(n / 16, f)?;
-        f.write_char(digit(n % 16))
     }
+    f.write_char(digit(n % 16))
 }
 
 fn digit(n: u128) -> char
