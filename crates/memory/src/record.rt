@@ -8,7 +8,7 @@ use crate::slice_store::SliceStore;
 use store::place::Entry;
 
 // The fields of an entry, and whether there is one.
-#[derive(Clone, Copy, PartialEq, Eq, Debug, Default)]
+#[derive(Clone, Copy, PartialEq, Eq, Hash, Debug, Default)]
 pub struct Record {
     pub digest: u128,
     pub hop: u16,

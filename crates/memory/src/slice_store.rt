@@ -11,7 +11,7 @@ use store::place::{Entry, NoPlace, Place};
 use store::shape::{MAX_BUCKETS, MAX_SLOTS, Shape, WriteRefusal};
 
 // The slot s of the bucket b is element b × slots + s.
-#[derive(Drop)]
+#[derive(Debug, Drop)]
 pub struct SliceStore<'a, T: Encoded> {
     elements: &'a mut [T],
     buckets: u32,

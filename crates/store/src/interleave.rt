@@ -7,7 +7,7 @@ use crate::place::{Entry, NoPlace, Place};
 use crate::shape::{MAX_BUCKETS, Shape, WriteRefusal};
 
 // Even buckets stand in the first store, odd ones in the second.
-#[derive(Drop)]
+#[derive(Debug, Drop)]
 pub struct Interleave<F, G> {
     first: F,
     second: G,

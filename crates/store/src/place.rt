@@ -6,7 +6,7 @@ use std::error::Error;
 use std::fmt;
 
 // A slot of a bucket, both counted from 0.
-#[derive(Clone, Copy, PartialEq, Eq, Debug)]
+#[derive(Clone, Copy, PartialEq, Eq, Hash, Debug)]
 pub struct Place {
     pub bucket: u32,
     pub slot: u32,
@@ -31,7 +31,7 @@ impl fmt::Display for Place {
 }
 
 // What a table keeps of one route. The prefix is not among it: bucket, tread, length and digest tell it.
-#[derive(Clone, Copy, PartialEq, Eq, Debug)]
+#[derive(Clone, Copy, PartialEq, Eq, Hash, Debug)]
 pub struct Entry {
     // what is left of the prefix beside its bucket
     pub digest: u128,
@@ -44,7 +44,7 @@ pub struct Entry {
 }
 
 // The store has no such place.
-#[derive(Clone, Copy, PartialEq, Eq, Debug)]
+#[derive(Clone, Copy, PartialEq, Eq, Hash, Debug)]
 pub struct NoPlace;
 
 impl fmt::Display for NoPlace {

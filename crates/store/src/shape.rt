@@ -9,7 +9,7 @@ use crate::place::{Entry, NoPlace, Place};
 use std::error::Error;
 use std::fmt;
 
-#[derive(Clone, Copy, PartialEq, Eq, Debug)]
+#[derive(Clone, Copy, PartialEq, Eq, Hash, Debug)]
 pub struct Shape {
     pub buckets: u32,
     // in each bucket
@@ -19,7 +19,7 @@ pub struct Shape {
 }
 
 // Why a write is refused: the first of these that is so.
-#[derive(Clone, Copy, PartialEq, Eq, Debug)]
+#[derive(Clone, Copy, PartialEq, Eq, Hash, Debug)]
 pub enum WriteRefusal {
     NoPlace,
     DigestTooWide,
