@@ -24,7 +24,7 @@ pub record HasNumber (treads : List ℕ) (tread k : ℕ) : Type 0 where
 
 -- the list has no such tread
 abbrev pub NoTread : List ℕ → ℕ → Type 0
-NoTread treads tread = (k : ℕ) → HasNumber treads tread k → ⊥
+NoTread treads tread = (k : ℕ) → ¬ HasNumber treads tread k
 
 -- the bucket is the colony of the prefix under the tread: the remainder of its address rounded to the tread
 abbrev pub place_of : ℕ → Layout → Placing ℕ → Place
