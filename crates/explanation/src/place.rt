@@ -8,7 +8,7 @@ use crate::query::Query;
 use layout::prefix::Prefix;
 use std::alloc::{AllocError, Global};
 
-#[derive(Clone, Copy)]
+#[derive(Clone, Copy, PartialEq, Eq, Debug)]
 pub struct Place {
     pub tread: u8,
     // the number of the bucket

@@ -12,7 +12,7 @@ use std::error::Error;
 use std::fmt;
 
 // A prefix: an address of 32 bits in dotted form, any other as an IPv6 address, and the length.
-#[derive(Clone, Copy)]
+#[derive(Clone, Copy, PartialEq, Eq, Debug)]
 pub struct PrefixText(pub Prefix);
 
 impl fmt::Display for PrefixText {
@@ -40,7 +40,7 @@ impl fmt::Display for Query {
 }
 
 // What is added to a place where a tread does not admit the prefix.
-#[derive(Clone, Copy)]
+#[derive(Clone, Copy, PartialEq, Eq, Debug)]
 pub struct ConfusedText(pub Option<Prefix>);
 
 impl fmt::Display for ConfusedText {

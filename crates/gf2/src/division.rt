@@ -34,6 +34,7 @@ impl Generator {
         ensures remainder { result.remainder ≡ remainder_of self.now dividend }
     {
         let poly = self.poly();
+        // a loop over the exponents: a fold over the pair has the same lines
         let mut quotient = 0u128;
         let mut remainder = 0u32;
         for k in (0..bits).rev() {

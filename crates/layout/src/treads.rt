@@ -14,7 +14,7 @@ pub const MAX_TREADS: usize = 40;
 #[derive(Clone, Copy)]
 pub struct TreadList {
     width: Width,
-    // the treads are the first `count`
+    // the treads are the first `count`; no slice of the caller's, which would have to outlive the list, and no heap
     lengths: [u8; MAX_TREADS],
     count: usize,
     ghost room: { count ≤ 40 },

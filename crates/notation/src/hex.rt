@@ -7,7 +7,7 @@ ghost use Rattle.notation.specs.Ipv6Text.{colons};
 
 use std::fmt;
 
-// A number that is written in lower case without leading zeros.
+// A number that is written in lower case without leading zeros. `{:x}` promises nothing of a `u128`.
 #[derive(Clone, Copy, PartialEq, Eq, Debug)]
 pub struct HexText(pub u128);
 

@@ -47,6 +47,7 @@ fn parse_left(text: &[u8]) -> Option<Groups>
     if text.is_empty() {
         return Some(Groups::none());
     }
+    // the checker does not cover `?` on an `Option` of groups beside a slice
     let Some((groups, last)) = parse_all_but_last(text) else {
         return None;
     };
@@ -67,6 +68,7 @@ fn parse_right(text: &[u8]) -> Option<Groups>
 fn parse_mixed_groups(text: &[u8]) -> Option<Groups>
     ensures { result ≡ and_then (read_groups true text.now) (total (0, 0)) }
 {
+    // the checker does not cover `?` on an `Option` of groups beside a slice
     let Some((groups, last)) = parse_all_but_last(text) else {
         return None;
     };

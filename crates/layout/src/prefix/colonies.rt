@@ -32,16 +32,16 @@ impl Prefix {
         }
         Some(Prefix {
             width: self.width,
-            address: self.address ^ unseen(self.width, generator, self.length),
+            address: self.address ^ self.unseen(generator),
             length: self.length,
         })
     }
-}
 
-// The sum of two confused prefixes of that length: g + 1 times the least power of x that clears the bits after it.
-fn unseen(width: Width, generator: &Generator, length: u8) -> u128
-    ensures { result ≡ bit_xor generator.now.poly 1 * 2 ^ (width.bits - length - generator.now.lowest) % 2 ^ 128 }
-{
-    let after = width.bits().saturating_sub(length) as u32;
-    (generator.poly() as u128 ^ 1) << after.saturating_sub(generator.lowest())
+    // The sum of two confused prefixes of that length: g + 1 times the least power of x that clears the bits after it.
+    fn unseen(&self, generator: &Generator) -> u128
+        ensures { result ≡ bit_xor generator.now.poly 1 * 2 ^ (self.now.width.bits - self.now.length - generator.now.lowest) % 2 ^ 128 }
+    {
+        let after = self.width.bits().saturating_sub(self.length) as u32;
+        (generator.poly() as u128 ^ 1) << after.saturating_sub(generator.lowest())
+    }
 }

@@ -46,7 +46,8 @@ impl Prefix {
         self.length
     }
 
-    // Whether the address, rounded to the prefix's length, is the prefix.
+    // Whether the address, rounded to the prefix's length, is the prefix. (`covers` of crate `family` is the same over that
+    // family's own rounding; either is one line.)
     pub fn covers(&self, address: u128) -> bool
         ensures { IsTrue result ↔ Covered self.now address }
     {
