@@ -3,8 +3,7 @@
 //! only moves bytes.
 #![tactic(auto)]
 
-use anyhow::Context;
-use layout::named::named;
+use layout::named::ListName;
 use memory::word::WordStore;
 use placement::listing::listing;
 use placement::placer::Placer;
@@ -13,7 +12,7 @@ use std::io::{BufRead, BufReader};
 
 fn main(rt: HostRuntime) -> anyhow::Result<()> {
     let heap = rt.alloc();
-    let layout = named("v4-small").context("no list has this name")?;
+    let layout = ListName::V4Small.layout();
     // 256 buckets of 4 slots
     let mut words = [0u64; 1024];
     let mut placer = Placer::new(layout, WordStore::new(&mut words, 4));

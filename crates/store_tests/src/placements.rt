@@ -1,7 +1,7 @@
 // Prefixes placed by hand: whole replies, a listing, and a placer over interleaves of interleaves.
 use family::ipv4::Ipv4Address;
 use family::prefixes::{colony, digest};
-use layout::named::named;
+use layout::named::ListName;
 use memory::word::WordStore;
 use placement::listing::listing;
 use placement::placer::{PlaceFault, Placer};
@@ -15,7 +15,7 @@ use store::shape::WriteRefusal;
 
 #[test]
 fn lines(rt: HostRuntime) -> Result<(), Fail> {
-    let layout = named("v4-small").ok_or_else(|| Fail::new("no list"))?;
+    let layout = ListName::V4Small.layout();
     let mut words = [u64::MAX; 1024];
     let mut placer = Placer::new(layout, WordStore::new(&mut words, 4));
     for (line, text) in [
@@ -45,7 +45,7 @@ fn lines(rt: HostRuntime) -> Result<(), Fail> {
 // The entry stands where the placer said, in an interleave of four stores of words.
 #[test]
 fn nested_interleaves(rt: HostRuntime) -> Result<(), Fail> {
-    let layout = named("v4-small").ok_or_else(|| Fail::new("no list"))?;
+    let layout = ListName::V4Small.layout();
     let mut first = [u64::MAX; 256];
     let mut second = [u64::MAX; 256];
     let mut third = [u64::MAX; 256];
