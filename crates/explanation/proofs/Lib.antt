@@ -1,3 +1,2 @@
-pub mod HexText
 pub mod PlaceRuns
 pub mod Reading

@@ -1,6 +1,5 @@
 -- How a query is answered in words. Assumes nothing.
-use Rattle.std.specs.Prelude.{ℕ, if◌then◌else◌, List, [], false, ◌∷◌, ◌++◌, Some, None, codes, decimal, Option, ◌==◌}
-use Rattle.std.specs.Fmt.{digits}
+use Rattle.std.specs.Prelude.{ℕ, if◌then◌else◌, List, [], ◌∷◌, ◌++◌, Some, None, codes, decimal, Option, ◌==◌}
 use Rattle.notation.specs.Ipv4.{dotted}
 use Rattle.notation.specs.Hexadecimal.{hex}
 use Rattle.notation.specs.Ipv6Text.{text6}
@@ -13,9 +12,9 @@ use Rattle.explanation.specs.declared.query.LineFault.TheVariants.{Unreadable, U
 abbrev pub prefix_text : Prefix → List ℕ
 prefix_text p = (if p.width.bits == 32 then dotted p.address else text6 p.address) ++ (47 ∷ decimal p.length)
 
--- the prefix and its list's generator, of which `digits 16 false` are the digits that `{:x}` writes, as `hex` has them
+-- the prefix and its list's generator
 abbrev pub query_text : Query → List ℕ
-query_text q = prefix_text q.prefix ++ (codes ", generator 0x" ++ digits 16 false q.layout.generator.poly)
+query_text q = prefix_text q.prefix ++ (codes ", generator 0x" ++ hex q.layout.generator.poly)
 
 abbrev pub confused_text : Option Prefix → List ℕ
 confused_text None = []
@@ -23,7 +22,7 @@ confused_text (Some p) = codes ", not admitted: " ++ (prefix_text p ++ codes " w
 
 abbrev pub place_text : Place → List ℕ
 place_text p =
-    codes "tread " ++ (decimal p.tread ++ (codes ": bucket 0x" ++ (digits 16 false p.bucket ++ (codes ", digest 0x" ++ (hex p.digest ++ confused_text p.confused)))))
+    codes "tread " ++ (decimal p.tread ++ (codes ": bucket 0x" ++ (hex p.bucket ++ (codes ", digest 0x" ++ (hex p.digest ++ confused_text p.confused)))))
 
 abbrev pub fault_text : LineFault → List ℕ
 fault_text Unreadable = codes "cannot read this: a line is LIST ADDRESS/LENGTH, as v4 10.0.0.0/24 or v6 2001:db8::/32"

@@ -5,7 +5,7 @@ ghost use Rattle.layout.specs.Admission.{admitted, keeps_apart, Exact, colony, d
 use crate::width::Width;
 use gf2::generator::Generator;
 
-// The generator is a parameter and no field beside the width: a prefix, which calls these too, has its width alone.
+// The generator is a parameter and no field beside the width: a prefix brings its own width, and a pair's could differ.
 impl Width {
     // The number of the bucket in which a prefix with that address stands under the tread.
     pub fn colony(&self, generator: &Generator, address: u128, tread: u8) -> u32

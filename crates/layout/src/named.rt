@@ -102,10 +102,7 @@ impl ListName {
         ensures { IsRow self result }
     {
         let row = self.row();
-        match Layout::check(row.width, row.generator, row.treads) {
-            Ok(layout) => layout,
-            Err(_) => unreachable!(),
-        }
+        Layout::check(row.width, row.generator, row.treads).unwrap()
     }
 }
 

@@ -20,8 +20,8 @@ pub fn parse_ipv4(text: &[u8]) -> Option<u32>
     Some(u32::from_be_bytes([a, b, c, d]))
 }
 
-// The octet before the first dot, and the text after that dot. Crate `placement` reads numbers before a space so; a
-// function over the reader of what stands before would have to require that it may be called.
+// The octet before the first dot, and the text after that dot. Crate `placement` reads the number before a space likewise:
+// a function of the mark and the limit would leave both with these two lines, for the types of their numbers.
 fn parse_octet_and_dot(text: &[u8]) -> Option<(u8, &[u8])>
     ensures { option_map (λ p. (p.0, p.1.now)) result ≡ read_octet_and_dot text.now }
 {

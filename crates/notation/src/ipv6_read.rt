@@ -54,7 +54,7 @@ fn parse_left(text: &[u8]) -> Option<Groups>
     groups.push(parse_group(last)?)
 }
 
-// The groups right of `::`, where there may be none.
+// The groups right of `::`, where there may be none. (One function for both sides: the proof did not close.)
 fn parse_right(text: &[u8]) -> Option<Groups>
     ensures { result ≡ and_then (read_side true text.now) (total (0, 0)) }
 {

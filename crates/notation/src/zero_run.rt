@@ -21,7 +21,7 @@ fn longest_zero_run(groups: &[u16]) -> Range<usize>
     ensures longest { result.end - result.start ≡ longest_run groups.now }
     ensures first { result.start < result.end → cut (replicate (longest_run groups.now) 0) groups.now ≡ Some (take result.start groups.now, drop result.end groups.now) }
 {
-    // a loop: `max_by_key` takes the last of equally long runs, and a fold has the same lines
+    // a loop: the proof did not close over a chain (`map` and `reduce`)
     let mut longest = 0..0;
     for start in 0..groups.len() {
         let run = start..start + leading_zeros(&groups[start..]);

@@ -1,5 +1,6 @@
 // A store into which prefixes are placed by hand, under the treads of a layout.
-ghost use Rattle.std.specs.Prelude.{◌≡◌, ◌≤◌, length as count, MatchOption, OnErr};
+ghost use Rattle.std.specs.Prelude.{◌≡◌, MatchOption, OnErr};
+ghost use Rattle.layout.specs.Layouts.{treads_of};
 ghost use Rattle.store.specs.Grids.{Emptied};
 ghost use Rattle.placement.specs.Placements.{HasNumber, NoTread, numbered, Allows, Placed};
 ghost use Rattle.placement.specs.declared.placer.PlaceFault.TheVariants.{Refused};
@@ -85,7 +86,7 @@ fn allowed<F: Family>(layout: &Layout, placing: Placing<F>) -> Result<(Place, En
     if !is_prefix(placing.address, length) {
         return Err(PlaceFault::BitsAfterLength);
     }
-    let number = tread_number(layout.treads(), placing.tread).ok_or(PlaceFault::UnknownTread)?;
+    let number = tread_number(layout, placing.tread).ok_or(PlaceFault::UnknownTread)?;
     if placing.tread > placing.length {
         return Err(PlaceFault::TreadBeyondLength);
     }
@@ -104,12 +105,12 @@ fn allowed<F: Family>(layout: &Layout, placing: Placing<F>) -> Result<(Place, En
     Ok((place, entry))
 }
 
-// The position of the tread in the list.
-fn tread_number(treads: &[u8], tread: u32) -> Option<u8>
-    requires { count treads.now ≤ 40 }
-    ensures { MatchOption result (NoTread treads.now tread) (λ k. HasNumber treads.now tread k) }
+// The position of the tread in the layout's list.
+fn tread_number(layout: &Layout, tread: u32) -> Option<u8>
+    ensures { MatchOption result (NoTread (treads_of layout.now) tread) (λ k. HasNumber (treads_of layout.now) tread k) }
 {
-    let number = treads
+    let number = layout
+        .treads()
         .iter()
         .position(|length| u32::from(*length) == tread)?;
     Some(number as u8)

@@ -37,7 +37,7 @@ pub fn read_placing(line: &[u8]) -> Option<Placing<Ipv4Address>>
     })
 }
 
-// The number before the first space, and the text after that space; as octets are read before a dot in `notation`.
+// The number before the first space, and the text after that space; `notation` reads the octet before a dot likewise.
 fn read_number_and_space(text: &[u8]) -> Option<(u16, &[u8])>
     ensures { option_map (λ p. (p.0, p.1.now)) result ≡ read_number_and_space text.now }
 {

@@ -50,7 +50,7 @@ impl Layout {
 }
 
 impl LayoutRefusal {
-    // The question's number: a caller in C gets it in place of the enum.
+    // The question's number, as docs/LAYOUTS.md counts them.
     pub fn number(&self) -> u8
         ensures { result ≡ number_of self.now }
     {
