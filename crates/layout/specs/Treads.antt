@@ -1,6 +1,6 @@
 -- Tread lists and home treads. A tread is a prefix length at which routes may stand; a tread list has those of one
 -- table, shortest first. Assumes nothing.
-use Rattle.std.specs.Prelude.{◌≡◌, ℕ, ◌<◌, ◌≤◌, max, Bool, true, false, cond, List, [], ◌∷◌, length, nat_le, slice_index}
+use Rattle.std.specs.Prelude.{◌≡◌, ℕ, ◌<◌, ◌≤◌, max, Bool, true, false, if◌then◌else◌, List, [], ◌∷◌, length, nat_le, slice_index}
 use Rattle.std.specs.List.Sorted.{IsStrictlyIncreasing}
 use Rattle.gf2.specs.declared.generator.Generator.{Generator}
 use Rattle.layout.specs.Admission.{admitted}
@@ -20,7 +20,7 @@ pub record Lawful (W : ℕ) (ts : List ℕ) : Type 0 where
 -- the home tread of w: the largest tread not above w
 abbrev pub home_tread : List ℕ → ℕ → ℕ
 home_tread [] w = 0
-home_tread (l ∷ ls) w = cond (nat_le l w) (max l (home_tread ls w)) (home_tread ls w)
+home_tread (l ∷ ls) w = if nat_le l w then max l (home_tread ls w) else home_tread ls w
 
 -- the length w is admitted at its home tread
 abbrev pub admitted_at_home : ℕ → Generator → List ℕ → ℕ → Bool
