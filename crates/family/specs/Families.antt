@@ -1,5 +1,5 @@
 -- The laws of a family whose addresses are the numbers of their bits. Assumes nothing.
-use Rattle.std.specs.Prelude.{◌≡◌, ℕ, ◌+◌, ◌-◌, ◌*◌, ◌/◌, ◌^◌, min, Bool, ◌==◌}
+use Rattle.std.specs.Prelude.{◌≡◌, ℕ, ◌+◌, ◌-◌, ◌*◌, ◌/◌, ◌^◌, min}
 use Rattle.std.proofs.Common.{sym, ap, ◌∙◌, arith, shr-shr}
 use Rattle.std.proofs.Math.Decide.{dec_le}
 use Rattle.std.proofs.lemmas.Nat.{shl-shr}
@@ -30,13 +30,11 @@ round_twice W a b x = elim (dec_le a b) [
 -- an address is made of its number, and rounds as the number does
 pub laws_of : {X : Type 0} (W : ℕ) (number : X → ℕ) (make : ℕ → X) → IsWidth W
     → ((n : ℕ) → number (make n) ≡ n) → ((x : X) → make (number x) ≡ x)
-    → (eq : X → X → Bool) → ((x y : X) → eq x y ≡ (number x == number y))
-    → Laws W number (λ x l. make (rounded W l (number x))) eq
-laws_of W number make width made whole eq compared = record {
+    → Laws W number (λ x l. make (rounded W l (number x)))
+laws_of W number make width made whole = record {
   width = width;
   rounds = λ x l. made (rounded W l (number x));
   smaller = λ x a b. ap make (ap (rounded W b) (made (rounded W a (number x))) ∙ round_twice W a b (number x));
   equal = λ x y e. sym (whole x) ∙ ap make e ∙ whole y;
-  compared = compared;
   identity = λ g x. divides g (number x);
 }

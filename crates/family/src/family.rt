@@ -1,5 +1,5 @@
 // An address family: each address has W bits, the first most significant, for a width W of the layout library.
-ghost use Rattle.std.specs.Prelude.{◌≡◌, ℕ, ◌%◌, ◌^◌, ◌<◌};
+ghost use Rattle.std.specs.Prelude.{◌≡◌, ℕ, ◌^◌, ◌<◌, ◌==◌};
 ghost use Rattle.gf2.specs.Division.{Divides, quotient_of, remainder_of};
 ghost use Rattle.family.specs.Laws.{Laws};
 
@@ -7,7 +7,7 @@ use gf2::division::Division;
 use gf2::generator::Generator;
 use layout::width::Width;
 
-pub trait Family: Copy + Eq {
+pub trait Family: Copy {
     // W
     ghost wide: { ℕ };
 
@@ -24,16 +24,15 @@ pub trait Family: Copy + Eq {
         ensures value { result ≡ number self }
         ensures fits { result < 2 ^ wide };
 
-    // The address of the last W bits.
-    fn from_bits(bits: u128) -> Self
-        ensures { number result ≡ bits % 2 ^ wide };
-
     // Rounding to the width or beyond leaves the address as it is.
-    #[tactic(auto, using(crate::proofs::Rounded::rounded_fits))]
     fn round(self, length: u8) -> Self
-        ensures { result ≡ cleared self length }
+        ensures { result ≡ cleared self length };
+
+    // Whether the two have the same bits.
+    fn same(self, other: Self) -> bool
+        ensures { result ≡ (number self == number other) }
     {
-        Self::from_bits(Self::width().round(self.bits(), length))
+        self.bits() == other.bits()
     }
 
     // Quotient and remainder of the address as a polynomial.
@@ -46,5 +45,5 @@ pub trait Family: Copy + Eq {
     }
 
     // what each family has to prove
-    ghost laws: { Laws wide number cleared Self.eq };
+    ghost laws: { Laws wide number cleared };
 }

@@ -26,6 +26,8 @@ fn ipv4(rt: HostRuntime) {
     assert_eq!(rt; Ipv4Address::from_bits(0x1_0A44_03FF), address);
     assert!(rt; address != Ipv4Address(0x0A44_03FE));
     assert!(rt; address == Ipv4Address(0x0A44_03FF));
+    assert!(rt; !address.same(Ipv4Address(0x0A44_03FE)));
+    assert!(rt; address.same(Ipv4Address(0x0A44_03FF)));
     assert!(rt; is_prefix(Ipv4Address(0x0A44_0300), 24));
     assert!(rt; !is_prefix(Ipv4Address(0x0A44_0300), 22));
     assert!(rt; !is_prefix(Ipv4Address(0), 33));
@@ -49,6 +51,7 @@ fn ipv6(rt: HostRuntime) {
     }
     assert_eq!(rt; Ipv6Address::from_bits(address.bits()), address);
     assert!(rt; address != Ipv6Address(0x2001_0DB8_0000_0000_0001_0000_0000_00FE));
+    assert!(rt; !address.same(Ipv6Address(0x2001_0DB8_0000_0000_0001_0000_0000_00FE)));
     assert!(rt; covers(address.round(48), 48, address));
     assert!(rt; !is_prefix(address, 127));
     assert!(rt; is_prefix(address, 128));
