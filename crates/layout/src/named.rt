@@ -1,6 +1,6 @@
 // The tread lists that go by a name, each with its width and generator.
 ghost use Rattle.std.specs.Prelude.{◌≡◌, Some, codes, MatchOption, MatchResult};
-ghost use Rattle.layout.specs.Named.{row_of, HasName, NoName, IsRow};
+ghost use Rattle.layout.specs.Named.{row_of, IsNumbered, HasName, NoName, IsRow};
 ghost use Rattle.layout.specs.declared.named.ListName.{ListName};
 
 use crate::layout::Layout;
@@ -104,6 +104,14 @@ impl ListName {
         let row = self.row();
         Layout::check(row.width, row.generator, row.treads).unwrap()
     }
+}
+
+// The number of the row that has the name, counted from 0.
+pub fn row_number(name: &str) -> Option<usize>
+    ensures { MatchOption result (NoName name.now) (λ i. IsNumbered i name.now) }
+{
+    let list = name.parse::<ListName>().ok()?;
+    Some(list as usize)
 }
 
 // The layout that goes by the name.

@@ -7,6 +7,8 @@ use crate::width::Width;
 mod homes;
 mod making;
 
+pub use making::is_tread_list;
+
 // A tread list has no more lengths than this.
 pub const MAX_TREADS: usize = 40;
 

@@ -1,9 +1,9 @@
 // The worked figures as the code gives them, refusals of the check, and confused prefixes looked at one by one.
 use gf2::generator::Generator;
 use layout::layout::{Layout, LayoutRefusal};
-use layout::named::{ListName, UnknownList, named};
+use layout::named::{ListName, UnknownList, named, row_number};
 use layout::prefix::{Prefix, PrefixFault};
-use layout::treads::TreadList;
+use layout::treads::{TreadList, is_tread_list};
 use layout::width::Width;
 use std::test::Fail;
 
@@ -99,7 +99,9 @@ fn tread_lists(rt: HostRuntime) -> Result<(), Fail> {
     for (length, number) in [(0, 0), (14, 0), (15, 1), (16, 2), (32, 2), (255, 2)] {
         assert_eq!(rt; list.home(length), number);
     }
+    assert!(rt; is_tread_list(Width::IPV4, list.as_slice()));
     for treads in [[1, 15, 16], [0, 15, 15], [0, 16, 15], [0, 15, 33]] {
+        assert!(rt; !is_tread_list(Width::IPV4, &treads));
         assert!(rt; TreadList::new(Width::IPV4, &treads).is_none());
     }
     Ok(())
@@ -114,11 +116,13 @@ fn names(rt: HostRuntime) -> Result<(), Fail> {
     ] {
         assert_eq!(rt; name.parse::<ListName>(), Ok(list));
         assert_eq!(rt; list as usize, row);
+        assert_eq!(rt; row_number(name), Some(row));
         assert_eq!(rt; list.to_string(rt.alloc())?.as_str(), name);
         assert!(rt; named(name).is_some());
     }
     for name in ["", "v", "V4", "v4 ", "v4-smal", "v4-small2", "vpn"] {
         assert_eq!(rt; name.parse::<ListName>(), Err(UnknownList));
+        assert_eq!(rt; row_number(name), None);
         assert!(rt; named(name).is_none());
     }
     Ok(())

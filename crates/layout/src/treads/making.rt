@@ -29,10 +29,16 @@ fn rises(treads: &[u8]) -> bool
     treads.is_sorted_by(|shorter, longer| shorter < longer)
 }
 
+// The last of rising treads is the longest.
+#[tactic(auto, using(crate::proofs::Rising::rising_within))]
 fn stays_within(bits: u8, treads: &[u8]) -> bool
+    requires { IsStrictlyIncreasing treads.now }
     ensures { IsTrue result ↔ Within bits treads.now }
 {
-    treads.iter().all(|tread| *tread <= bits)
+    match treads {
+        [.., last] => *last <= bits,
+        [] => true,
+    }
 }
 
 impl TreadList {
