@@ -1,3 +1,5 @@
+pub use Rattle.lines.specs.Ends
+pub mod Lines
 pub mod Queries
 pub mod Places
 pub mod Texts

@@ -1,5 +1,5 @@
 // How a query is answered in words.
-ghost use Rattle.std.specs.Prelude.{Some};
+ghost use Rattle.std.specs.Prelude.{◌≡◌, Some, ◌==◌};
 ghost use Rattle.explanation.specs.Texts.{prefix_text, confused_text, query_text, place_text, fault_text};
 
 use crate::place::Place;
@@ -20,12 +20,19 @@ impl fmt::Display for PrefixText {
 
     fn fmt<W: fmt::Write>(&self, f: &mut fmt::Formatter<W>) -> fmt::Result {
         let length = self.0.length();
-        if self.0.width().bits() == 32 {
+        if is_ipv4(&self.0) {
             write!(f, "{}/{length}", Ipv4Text(self.0.address() as u32))
         } else {
             write!(f, "{}/{length}", Ipv6Text(self.0.address()))
         }
     }
+}
+
+// Whether the prefix has the 32 bits of IPv4.
+fn is_ipv4(prefix: &Prefix) -> bool
+    ensures { result ≡ (prefix.now.width.bits == 32) }
+{
+    prefix.width().bits() == 32
 }
 
 // The prefix and its list's generator.

@@ -4,6 +4,7 @@
 #![tactic(auto)]
 
 use layout::named::ListName;
+use lines::line::without_end;
 use memory::word::WordStore;
 use placement::listing::listing;
 use placement::placer::Placer;
@@ -16,9 +17,14 @@ fn main(rt: HostRuntime) -> anyhow::Result<()> {
     // 256 buckets of 4 slots
     let mut words = [0u64; 1024];
     let mut placer = Placer::new(layout, WordStore::new(&mut words, 4));
-    let input = BufReader::new(heap, rt.stdin())?;
-    for line in input.split(heap, b'\n') {
-        rt.println(AnswerText(placer.answer(&line?)))?;
+    let mut input = BufReader::new(heap, rt.stdin())?;
+    let mut line = Vec::new(heap);
+    for _ in 0..u64::MAX {
+        line.clear();
+        if input.read_until(b'\n', &mut line)? == 0 {
+            break;
+        }
+        rt.println(AnswerText(placer.answer(without_end(&line))))?;
     }
     rt.print(listing(heap, placer.store())?)?;
     Ok(())

@@ -16,13 +16,12 @@ returns-in_err-prefix c =
     let P = c.in_ok-address.address in
     let w = c.in_ok-address.length in
     let fault = c.in_err-prefix.field-0.0 in
-    let bits = c.bits.ensures ∙ ap (λ x. x.bits) c.width.ensures in
     let cuts : cut (32 ∷ []) line ≡ Some (name, text) = sym (rw c.in_ok-name.ensures.ok_part at c.split_once.ensures) in
     let placed : Placed name layout = rw c.in_ok-layout.ensures.ok_part at c.layout_named.ensures in
-    let reads : read_prefix layout.treads.width.bits text ≡ Some (P, w) = ap (λ b. read_prefix b text) (sym bits) ∙ sym c.parse_prefix.ensures.value ∙ c.in_ok-address.ensures.ok_part in
-    let bound : P < 2 ^ c.bits.result = rw c.in_ok-address.ensures.ok_part at c.parse_prefix.ensures.bound in
+    let reads : read_prefix layout.treads.width.bits text ≡ Some (P, w) = ap (λ x. read_prefix x.bits text) (sym c.width.ensures) ∙ sym c.read_prefix.ensures.value ∙ c.in_ok-address.ensures.ok_part in
+    let bound : P < 2 ^ c.width.result.bits = rw c.in_ok-address.ensures.ok_part at c.read_prefix.ensures.bound in
     let p = err_from_is_err_and c.from_residual-in_err-prefix.result c.from_residual-in_err-prefix.ensures.1 in
     rw p.1 (subst (λ f. Answers line (Err f)) (sym p.2)
     (faulty line name text layout cuts placed P w fault reads
-    (subst (λ b. P < 2 ^ b) bits bound)
+    (subst (λ x. P < 2 ^ x.bits) c.width.ensures bound)
     (subst (λ x. Made x P w (Err fault)) c.width-2.ensures c.in_err-prefix.ensures)))
