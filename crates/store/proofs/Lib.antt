@@ -3,4 +3,3 @@ pub mod Taken
 pub mod Below
 pub mod Halves
 pub mod Listed
-pub mod Emptying

@@ -2,12 +2,17 @@
 ghost use Rattle.store.specs.Grids.{Emptied};
 
 use crate::bucket_store::BucketStore;
+use crate::place::Place;
 
-// Sets every place to nothing.
+// Sets every place to nothing. Two loops and not one over `Shape::places`: so the compiler sees the memory that a store over
+// a slice fills one element after the other, and fills it as one piece.
 pub fn clear<S: BucketStore>(store: &mut S)
     ensures { Emptied (S.grid store.old) (S.grid store.new) }
 {
-    for place in store.shape().places() {
-        let _ = store.write(place, None);
+    let shape = store.shape();
+    for bucket in 0..shape.buckets {
+        for slot in 0..shape.slots {
+            let _ = store.write(Place { bucket, slot }, None);
+        }
     }
 }
