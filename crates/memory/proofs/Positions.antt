@@ -48,12 +48,18 @@ element_set e xs B S b s x content inside reads =
     }
 
 -- what a write leaves: the element of the place, of the content that the shape takes
-module _ {T : Type 0} (e : Encoding T) (restores : Restores e) (xs : List T) (B S b s i : ℕ) (x : T) (content : Option Entry) where
-  pub element_written : (shape : Shape) → shape ≡ slice_shape e.bits (length xs) B S → Takes shape b s content → i ≡ b * S + s → x ≡ e.encoded content
-      → Takes (slice_shape e.bits (length xs) B S) b s content × Changed (slice_grid e xs B S) b s content (slice_grid e (set xs i x) B S)
-  element_written shape is takes at encodes =
-      let taken = subst (λ shape. Takes shape b s content) is takes in (
-        taken,
-        subst (λ ys. Changed (slice_grid e xs B S) b s content (slice_grid e ys B S)) (sym (ap₂ (set xs) at encodes))
-            (element_set e xs B S b s (e.encoded content) content taken.place (restores content taken.fits)),
+module _ {T : Type 0} (e : Encoding T) (restores : Restores e) (xs ys : List T) (B S b s i : ℕ) (x : T) (content : Option Entry) where
+  pub element_written : (shape : Shape) → shape ≡ slice_shape e.bits (length xs) B S → Takes shape b s content
+      → ys ≡ set xs i x → i ≡ b * S + s → x ≡ e.encoded content
+      → (Takes (slice_shape e.bits (length xs) B S) b s content × Changed (slice_grid e xs B S) b s content (slice_grid e ys B S))
+      × (ys ≡ set xs (b * S + s) (e.encoded content))
+  element_written shape is takes after at encodes =
+      let taken = subst (λ shape. Takes shape b s content) is takes in
+      let memory : ys ≡ set xs (b * S + s) (e.encoded content) = after ∙ ap₂ (set xs) at encodes in (
+        (
+          taken,
+          subst (λ ys. Changed (slice_grid e xs B S) b s content (slice_grid e ys B S)) (sym memory)
+              (element_set e xs B S b s (e.encoded content) content taken.place (restores content taken.fits)),
+        ),
+        memory,
       )

@@ -1,5 +1,5 @@
 // Stores over the caller's memory, with one element at each place.
-ghost use Rattle.std.specs.Prelude.{◌≡◌, ◌+◌, ◌*◌, ◌/◌, ◌<◌, ◌||◌, ◌&&◌, ◌==◌, IsTrue, length, OnErr};
+ghost use Rattle.std.specs.Prelude.{◌≡◌, ◌+◌, ◌*◌, ◌/◌, ◌<◌, ◌||◌, ◌&&◌, ◌==◌, IsTrue, length, OnErr, slice_set};
 ghost use Rattle.std.specs.Bool.{then_some};
 ghost use Rattle.store.specs.Grids.{Writes};
 ghost use Rattle.store.specs.Shapes.{Inside};
@@ -55,6 +55,13 @@ impl<'a, T: Encoded> SliceStore<'a, T> {
     }
 }
 
+fn put<T: Copy>(elements: &mut [T], index: usize, element: T)
+    requires { index < length elements.old }
+    ensures { elements.new ≡ slice_set elements.old index element }
+{
+    elements[index] = element;
+}
+
 // How many buckets of that many slots the elements fill, where they fill them exactly and the store may have so many.
 fn buckets_filled(elements: usize, slots: u32) -> Option<u32>
     ensures { result ≡ then_some (fills elements slots) (elements / slots) }
@@ -86,7 +93,7 @@ impl<'a, T: Encoded> BucketStore for SliceStore<'a, T> {
     {
         self.shape().check_write(place, content)?;
         let index = self.index(place);
-        self.elements[index] = T::encode(content);
+        put(self.elements, index, T::encode(content));
         Ok(())
     }
 }
