@@ -4,8 +4,8 @@ ghost use Rattle.store.specs.Grids.{Emptied};
 use crate::bucket_store::BucketStore;
 use crate::place::Place;
 
-// Sets every place to nothing. Two loops and not one over `Shape::places`: so the compiler sees the memory that a store over
-// a slice fills one element after the other, and fills it as one piece.
+// Sets every place to nothing. Two loops, and not one over `Shape::places`, so that the compiler sees that a store over a
+// slice fills its memory one element after the other, and fills it as one piece.
 pub fn clear<S: BucketStore>(store: &mut S)
     ensures { Emptied (S.grid store.old) (S.grid store.new) }
 {
